@@ -1,0 +1,19 @@
+//! The base of every other crate: sorts and declared names, lists and texts that contracts see as
+//! lists, the limits of the tool, and the outside as three traits with devices in memory.
+//!
+//! It stands on `indexmap` alone. Its definitions are in `specs/`: what a call on the outside does
+//! (`Outside.antt`), and what the devices in memory add to that (`Memory.antt`).
+#![tactic(auto)]
+
+pub mod decl;
+pub mod limits;
+pub mod list;
+pub mod no_memory;
+pub mod outside;
+pub mod text;
+
+pub use decl::{Decl, Decls, Kind, Sort};
+pub use list::List;
+pub use no_memory::NoMemory;
+pub use outside::{Failed, NamedBytes, Origin, Sink, Target};
+pub use text::Text;
