@@ -1,0 +1,4 @@
+pub mod Tree
+pub mod Truth
+pub mod Sorts
+pub mod Substitution

@@ -1,0 +1,4 @@
+pub mod Tree
+pub mod Values
+pub mod Sorts
+pub mod Substitution
