@@ -1,0 +1,9 @@
+//! Certificates and their one spelling as bytes.
+//!
+//! It stands on `proof_terms`. Its definitions are in `specs/`: the tree of a certificate (`Tree.antt`), its
+//! spelling (`Spelling.antt`) and what begins one (`Front.antt`).
+#![tactic(auto)]
+
+pub mod certificate;
+
+pub use certificate::{Node, RawCertificate};

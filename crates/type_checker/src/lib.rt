@@ -1,0 +1,4 @@
+//! The typing rules: which formula a proof term has in a context.
+//!
+//! It stands on `proof_terms`. Its definition is the typing relation (`specs/Typing.antt`).
+#![tactic(auto)]
