@@ -1,0 +1,6 @@
+pub mod Programs
+pub mod Runs
+pub mod Proves
+pub mod Valid
+pub mod Commands
+pub mod Laws

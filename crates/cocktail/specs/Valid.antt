@@ -1,0 +1,52 @@
+-- Valid files: what `check` accepts, from the bytes alone.
+use Rattle.std.specs.Prelude.{◌≡◌, ℕ, ◌+◌, ◌≤◌, true, List, [], length}
+use Rattle.ck_base.specs.Names.{AreNames}
+use Rattle.formulas.specs.Sorts.{well_sorted, size}
+use Rattle.proof_terms.specs.Size.{proof_size}
+use Rattle.cert_codec.specs.Tree.{NodeTree, skip, CertificateTree}
+use Rattle.cert_codec.specs.Spelling.{Spells, IsSpelling}
+use Rattle.cocktail.specs.Proves.{Proves, program_of}
+use Rattle.cocktail.specs.Runs.{Meets}
+
+-- The parts of a certificate, its pre- and postcondition so far, are well-sorted.
+pub record AreSorted (c : CertificateTree) : Type 0 where
+  pub pre : well_sorted c.names [] c.pre ≡ true
+  pub post : well_sorted c.names [] c.post ≡ true
+
+-- the number of program, proof, formula and term nodes
+abbrev pub node_size : NodeTree → ℕ
+node_size (skip p) = 1 + proof_size p
+
+-- no part has more than 16,384 nodes, and the whole has at most 200,000
+pub record IsSmall (c : CertificateTree) : Type 0 where
+  pub pre : size c.pre ≤ 16384
+  pub post : size c.post ≤ 16384
+  pub whole : size c.pre + size c.post + node_size c.node ≤ 200000
+
+-- the bytes are a valid file of this certificate
+pub record IsFileOf (c : CertificateTree) (bytes : List ℕ) : Type 0 where
+  pub short : length bytes ≤ 4194304
+  pub spells : Spells bytes c
+  pub names : AreNames c.names
+  pub sorted : AreSorted c
+  pub small : IsSmall c
+  pub proved : Proves c.names c.pre c.node c.post
+
+abbrev pub Valid : List ℕ → Type 0
+Valid bytes = (c : CertificateTree) × IsFileOf c bytes
+
+-- The certificate's program keeps its promise: no run from a state that meets the precondition is stuck,
+-- and one that has ended meets the postcondition.
+abbrev pub KeepsPromise : CertificateTree → Type 0
+KeepsPromise c = Meets c.names c.pre (program_of c.node) c.post
+
+-- why a file is not valid: the first condition that fails
+pub data Complaint : Type 0 where
+  malformed : Complaint
+  unproved : Complaint
+
+-- the bytes are no spelling; or they are one, and an obligation has not its term
+abbrev pub Complains : List ℕ → Complaint → Type 0
+Complains bytes malformed = IsSpelling bytes → ⊥
+Complains bytes unproved =
+    (c : CertificateTree) × Spells bytes c × (Proves c.names c.pre c.node c.post → ⊥)

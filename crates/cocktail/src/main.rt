@@ -1,0 +1,4 @@
+//! The command line tool.
+#![tactic(auto)]
+
+fn main(rt: HostRuntime) {}
