@@ -12,12 +12,15 @@ abbrev pub is_file_word : List ℕ → Bool
 is_file_word [] = false
 is_file_word (b ∷ bytes) = not (b == 45)
 
+abbrev pub is_check : List ℕ → Bool
+is_check word = bytes_eq word (codes "check")
+
 -- the file's name, where the words are `check FILE`
 abbrev pub checked_file : List (List ℕ) → Option (List ℕ)
 checked_file [] = None
 checked_file (command ∷ []) = None
 checked_file (command ∷ file ∷ []) =
-    if bytes_eq command (codes "check") && is_file_word file then Some file else None
+    if is_check command && is_file_word file then Some file else None
 checked_file (command ∷ file ∷ word ∷ words) = None
 
 -- the words are `check FILE`, and the origin has these bytes in that file, where it tells its files
