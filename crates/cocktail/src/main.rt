@@ -1,6 +1,7 @@
 //! The command line tool.
 #![tactic(auto)]
 
+pub mod laws;
 mod printing;
 mod reading;
 mod status;
