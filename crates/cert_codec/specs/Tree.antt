@@ -6,6 +6,7 @@ use Rattle.proof_terms.specs.Tree.{ProofTree, proof_tree}
 use Rattle.cert_codec.specs.declared.certificate.Node.{Node}
 use Rattle.cert_codec.specs.declared.certificate.Node.TheVariants.{Skip}
 use Rattle.cert_codec.specs.declared.certificate.RawCertificate.{RawCertificate}
+use Rattle.cert_codec.specs.declared.certificate.Certificate.{Certificate}
 
 -- A node of a derived program, with the proofs of its obligations. Only skip is built so far.
 pub data NodeTree : Type 0 where
@@ -23,4 +24,8 @@ pub record CertificateTree : Type 0 where
 
 abbrev pub certificate_tree : RawCertificate → CertificateTree
 certificate_tree c =
+    record { names = c.decls; pre = formula_tree c.pre; post = formula_tree c.post; node = node_tree c.node }
+
+abbrev pub checked_tree : Certificate → CertificateTree
+checked_tree c =
     record { names = c.decls; pre = formula_tree c.pre; post = formula_tree c.post; node = node_tree c.node }

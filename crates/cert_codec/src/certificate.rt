@@ -1,6 +1,6 @@
 //! The types of certificates.
 
-use ck_base::{Decl, List};
+use ck_base::{Decl, Decls, List};
 use formulas::Formula;
 use proof_terms::Proof;
 
@@ -16,6 +16,15 @@ pub enum Node {
 #[derive(Drop)]
 pub struct RawCertificate {
     pub decls: List<Decl>,
+    pub pre: Formula,
+    pub post: Formula,
+    pub node: Node,
+}
+
+/// A certificate whose declared names keep their rule and are distinct.
+#[derive(Drop)]
+pub struct Certificate {
+    pub decls: Decls,
     pub pre: Formula,
     pub post: Formula,
     pub node: Node,

@@ -6,4 +6,4 @@
 
 pub mod certificate;
 
-pub use certificate::{Node, RawCertificate};
+pub use certificate::{Certificate, Node, RawCertificate};

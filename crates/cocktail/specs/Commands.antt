@@ -4,7 +4,7 @@ use Rattle.std.specs.declared.option.Option.{Option}
 use Rattle.std.specs.Str.{bytes_eq}
 use Rattle.std.specs.Io.KnownBytes.{Appends}
 use Rattle.ck_base.specs.declared.outside.NamedBytes.{NamedBytes}
-use Rattle.ck_base.specs.Outside.{Rose, Holds}
+use Rattle.ck_base.specs.Outside.{Rose, Holds, IsMissing}
 use Rattle.cocktail.specs.Valid.{Complaint, malformed, unproved}
 
 -- a word that can name a file: it is not empty and does not begin with `-`
@@ -23,14 +23,24 @@ checked_file (command ∷ file ∷ []) =
     if is_check command && is_file_word file then Some file else None
 checked_file (command ∷ file ∷ word ∷ words) = None
 
--- the words are `check FILE`, and the origin has these bytes in that file, where it tells its files
-abbrev pub Names : List (List ℕ) → Option (List NamedBytes) → List ℕ → Type 0
-Names words files bytes = (file : List ℕ) × (checked_file words ≡ Some file) × Holds files file bytes
-
 -- an origin that tells its files has these bytes left to read
 abbrev pub Leaves : Option (List NamedBytes) → Option (List ℕ) → List ℕ → Type 0
 Leaves None left rest = ⊤
 Leaves (Some files) left rest = left ≡ Some rest
+
+-- The words are `check FILE`, the file has these bytes, and so many of them are left to read, as far as the
+-- origin tells.
+pub record Reads (words : List (List ℕ)) (files : Option (List NamedBytes)) (left : Option (List ℕ)) (bytes rest : List ℕ) : Type 0 where
+  pub file : List ℕ
+  pub named : checked_file words ≡ Some file
+  pub holds : Holds files file bytes
+  pub leaves : Leaves files left rest
+
+-- The words are `check FILE`, and the origin tells its files and has none of that name.
+pub record FindsNone (words : List (List ℕ)) (files : Option (List NamedBytes)) : Type 0 where
+  pub file : List ℕ
+  pub named : checked_file words ≡ Some file
+  pub missing : IsMissing files file
 
 -- a text and the end of its line
 abbrev pub line : List ℕ → List ℕ

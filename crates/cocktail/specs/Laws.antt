@@ -2,10 +2,10 @@
 use Rattle.std.specs.Prelude.{List, ℕ}
 use Rattle.ck_base.specs.declared.decl.Decl.{Decl}
 use Rattle.formulas.specs.Tree.{FormulaTree}
-use Rattle.cert_codec.specs.Tree.{NodeTree, CertificateTree}
+use Rattle.cert_codec.specs.Tree.{NodeTree}
 use Rattle.cocktail.specs.Proves.{Proves, program_of}
 use Rattle.cocktail.specs.Runs.{Meets}
-use Rattle.cocktail.specs.Valid.{IsFileOf, KeepsPromise}
+use Rattle.cocktail.specs.Valid.{HasPromise}
 
 -- a node that proves its triple derives a program that meets it
 abbrev pub DerivingIsSound : Type 0
@@ -13,6 +13,6 @@ DerivingIsSound =
     (names : List Decl) (pre : FormulaTree) (node : NodeTree) (post : FormulaTree)
     → Proves names pre node post → Meets names pre (program_of node) post
 
--- whatever certificate a valid file spells, its program keeps its promise
+-- whatever certificate a valid file is of, its program keeps its promise
 abbrev pub ValidFilesKeepTheirPromise : Type 0
-ValidFilesKeepTheirPromise = (bytes : List ℕ) (c : CertificateTree) → IsFileOf c bytes → KeepsPromise c
+ValidFilesKeepTheirPromise = (bytes : List ℕ) → HasPromise bytes

@@ -32,6 +32,7 @@ pub record IsFileOf (c : CertificateTree) (bytes : List ℕ) : Type 0 where
   pub small : IsSmall c
   pub proved : Proves c.names c.pre c.node c.post
 
+-- the bytes are a valid file of some certificate
 abbrev pub Valid : List ℕ → Type 0
 Valid bytes = (c : CertificateTree) × IsFileOf c bytes
 
@@ -39,6 +40,10 @@ Valid bytes = (c : CertificateTree) × IsFileOf c bytes
 -- and one that has ended meets the postcondition.
 abbrev pub KeepsPromise : CertificateTree → Type 0
 KeepsPromise c = Meets c.names c.pre (program_of c.node) c.post
+
+-- whatever certificate the file is of keeps its promise
+abbrev pub HasPromise : List ℕ → Type 0
+HasPromise bytes = (c : CertificateTree) → IsFileOf c bytes → KeepsPromise c
 
 -- why a file is not valid: the first condition that fails
 pub data Complaint : Type 0 where
@@ -49,4 +54,4 @@ pub data Complaint : Type 0 where
 abbrev pub Complains : List ℕ → Complaint → Type 0
 Complains bytes malformed = IsSpelling bytes → ⊥
 Complains bytes unproved =
-    (c : CertificateTree) × Spells bytes c × (Proves c.names c.pre c.node c.post → ⊥)
+    IsSpelling bytes × ((c : CertificateTree) → Spells bytes c → Proves c.names c.pre c.node c.post → ⊥)
