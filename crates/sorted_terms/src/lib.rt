@@ -5,6 +5,14 @@
 //! (`Substitution.antt`).
 #![tactic(auto)]
 
+pub mod copying;
+pub mod measures;
+pub mod sorts;
 pub mod term;
+pub mod variables;
 
+pub use copying::{copy, same};
+pub use measures::{depth, size, spend};
+pub use sorts::{BadSort, sort_of, sort_under};
 pub use term::Term;
+pub use variables::{Variables, sort_at};
