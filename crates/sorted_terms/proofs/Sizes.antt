@@ -1,5 +1,5 @@
 -- A term has a node, and no more levels than nodes.
-use Rattle.std.proofs.Common.{ℕ, ◌+◌, ◌<◌, ◌≤◌, max, arith}
+use Rattle.std.proofs.Common.{◌<◌, ◌≤◌, arith}
 use Rattle.sorted_terms.specs.Tree.{TermTree, name, index, integer, boolean, unary, binary}
 use Rattle.sorted_terms.specs.Sorts.{term_size, term_depth}
 
