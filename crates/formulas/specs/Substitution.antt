@@ -1,5 +1,5 @@
 -- Substitution on formulas. Under a quantifier every place is one further in.
-use Rattle.std.specs.Prelude.{ℕ, suc, ◌+◌}
+use Rattle.std.specs.Prelude.{ℕ, suc}
 use Rattle.sorted_terms.specs.Tree.{TermTree}
 use Rattle.sorted_terms.specs.Substitution.{shift_term, instance_term, replace_term}
 use Rattle.formulas.specs.Tree.{FormulaTree, bottom, holds, joined, quantified}

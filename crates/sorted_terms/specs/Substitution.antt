@@ -1,5 +1,5 @@
 -- Substitution on terms, with de Bruijn indices.
-use Rattle.std.specs.Prelude.{ℕ, zero, suc, ◌+◌, ◌-◌, nat_lt, ◌==◌, if◌then◌else◌}
+use Rattle.std.specs.Prelude.{ℕ, ◌+◌, ◌-◌, nat_lt, ◌==◌, if◌then◌else◌}
 use Rattle.sorted_terms.specs.Tree.{TermTree, name, index, integer, boolean, unary, binary}
 
 -- every index that is at least `above` goes up by `by`
