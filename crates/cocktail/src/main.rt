@@ -1,4 +1,9 @@
-//! The command line tool.
+//! The command line tool: the words are read, the command is run on the outside, and its status ends the
+//! program.
+//!
+//! It stands on all other crates. `top` has the top call, whose clauses are what the tool promises. The
+//! definitions behind them are in `specs/`: programs and their runs (`Programs.antt`, `Runs.antt`), when a
+//! node proves its triple (`Proves.antt`), valid files (`Valid.antt`), and the commands (`Commands.antt`).
 #![tactic(auto)]
 
 mod adapters;
@@ -7,7 +12,44 @@ pub mod laws;
 mod printing;
 mod reading;
 mod status;
+#[cfg(test)]
+mod tests;
 mod top;
 mod words;
 
-fn main(rt: HostRuntime) {}
+use adapters::{FileOrigin, StdSink};
+use ck_base::{List, MemTarget, Text};
+use status::Status;
+use std::process::ExitCode;
+use std::{env, io};
+use top::cocktail;
+
+fn main(rt: HostRuntime) -> ExitCode {
+    ExitCode::from(run(&rt) as u8)
+}
+
+// Runs the tool on the real outside. Words that are not UTF-8 are no command, as no words are.
+fn run(rt: &HostRuntime) -> Status {
+    match words(rt) {
+        Ok(words) => run_words(rt, words.as_slice()),
+        Err(e) if e.kind() == io::ErrorKind::OutOfMemory => Status::NoMemory,
+        Err(_) => run_words(rt, &[]),
+    }
+}
+
+fn words(rt: &HostRuntime) -> io::Result<Vec<String>> {
+    Ok(env::args(rt)?.skip(1).collect(rt.alloc())?)
+}
+
+// No command writes a file yet, so the target is one in memory.
+fn run_words(rt: &HostRuntime, words: &[String]) -> Status {
+    let alloc = rt.alloc();
+    let mut target = MemTarget::new(alloc, Text::new(alloc), 1, List::new(alloc));
+    cocktail(
+        alloc,
+        words,
+        &mut FileOrigin::new(rt),
+        &mut target,
+        &mut StdSink::new(rt),
+    )
+}
