@@ -8,12 +8,17 @@
 pub mod decl;
 pub mod limits;
 pub mod list;
+pub mod memory;
 pub mod no_memory;
 pub mod outside;
 pub mod text;
 
 pub use decl::{Decl, Decls, Kind, Sort};
 pub use list::List;
+pub use memory::{MemOrigin, MemSink, MemTarget};
 pub use no_memory::NoMemory;
 pub use outside::{Failed, NamedBytes, Origin, Sink, Target};
 pub use text::Text;
+
+#[cfg(test)]
+mod tests;

@@ -1,0 +1,121 @@
+//! Each public call once, with ample memory. The expected values were worked out by hand.
+
+ghost use Rattle.std.specs.Prelude.{◌≡◌, true, IfOk};
+
+use super::*;
+use std::alloc::Global;
+use std::test::Fail;
+
+fn text(alloc: Global, bytes: &str) -> Result<Text, NoMemory>
+    ensures { IfOk result (λ text. text ≡ bytes.now) }
+{
+    let mut text = Text::new(alloc);
+    text.append(bytes.as_bytes())?;
+    Ok(text)
+}
+
+fn list(alloc: Global, items: &[u8]) -> Result<List<u8>, NoMemory> {
+    let mut list = List::new(alloc);
+    for &item in items {
+        list.push(item)?;
+    }
+    Ok(list)
+}
+
+fn only(alloc: Global, number: u64) -> Result<List<u64>, NoMemory> {
+    let mut list = List::new(alloc);
+    list.push(number)?;
+    Ok(list)
+}
+
+fn named(alloc: Global, name: &str, bytes: &str) -> Result<NamedBytes, NoMemory> {
+    Ok(NamedBytes {
+        name: text(alloc, name)?,
+        bytes: list(alloc, bytes.as_bytes())?,
+    })
+}
+
+/// Reads once into four bytes, and answers how many came, and the four.
+fn read(origin: &mut MemOrigin) -> Result<(usize, [u8; 4]), Failed>
+    requires { origin.old.begun ≡ true }
+    ensures { origin.new.begun ≡ true }
+{
+    let mut buf = [0; 4];
+    let n = origin.read(&mut buf)?;
+    Ok((n, buf))
+}
+
+#[test]
+fn a_list_keeps_its_items_in_order(rt: HostRuntime) -> Result<(), Fail> {
+    let mut numbers: List<u64> = List::new(rt.alloc());
+    assert_eq!(rt; numbers.pop(), None);
+    numbers.push(5)?;
+    numbers.push(7)?;
+    assert_eq!(rt; numbers.set(0, 6), 5);
+    assert_eq!(rt; numbers.len(), 2);
+    assert_eq!(rt; numbers.get(1), Some(&7));
+    assert_eq!(rt; numbers.get(2), None);
+    assert_eq!(rt; numbers.as_slice(), [6, 7].as_slice());
+    assert_eq!(rt; numbers.pop(), Some(7));
+    assert_eq!(rt; numbers.as_slice(), [6].as_slice());
+    Ok(())
+}
+
+#[test]
+fn a_text_grows_and_is_cut(rt: HostRuntime) -> Result<(), Fail> {
+    let mut words = text(rt.alloc(), "while")?;
+    words.append(b" true")?;
+    assert_eq!(rt; words.as_bytes(), b"while true".as_slice());
+    words.cut(4);
+    assert_eq!(rt; words.as_bytes(), b"whil".as_slice());
+    Ok(())
+}
+
+#[test]
+fn a_table_of_declarations_is_made(rt: HostRuntime) {
+    drop(Decls::new(rt.alloc()));
+}
+
+#[test]
+fn an_origin_reads_in_pieces(rt: HostRuntime) -> Result<(), Fail> {
+    let alloc = rt.alloc();
+    let mut files = List::new(alloc);
+    files.push(named(alloc, "a", "one")?)?;
+    files.push(named(alloc, "b", "hello")?)?;
+    files.push(named(alloc, "b", "other")?)?;
+    let mut origin = MemOrigin::new(files, 2, only(alloc, 3)?);
+    assert_eq!(rt; origin.begin("c"), Err(Failed), "call 0");
+    origin.begin("b")?;
+    assert_eq!(rt; read(&mut origin), Ok((2, *b"he\0\0")), "call 2");
+    assert_eq!(rt; read(&mut origin), Err(Failed), "call 3");
+    assert_eq!(rt; read(&mut origin), Ok((2, *b"ll\0\0")), "call 4");
+    assert_eq!(rt; read(&mut origin), Ok((1, *b"o\0\0\0")), "call 5");
+    assert_eq!(rt; read(&mut origin), Ok((0, [0; 4])), "call 6");
+    Ok(())
+}
+
+#[test]
+fn a_target_takes_one_name(rt: HostRuntime) -> Result<(), Fail> {
+    let alloc = rt.alloc();
+    let mut spent = MemTarget::new(alloc, text(alloc, "out")?, 3, List::new(alloc));
+    assert_eq!(rt; spent.create("other"), Err(Failed));
+    assert_eq!(rt; spent.bytes(), b"".as_slice());
+    let mut target = MemTarget::new(alloc, text(alloc, "out")?, 3, only(alloc, 2)?);
+    target.create("out")?;
+    assert_eq!(rt; target.put(b"hello"), Ok(3), "call 1");
+    assert_eq!(rt; target.put(b"lo"), Err(Failed), "call 2");
+    assert_eq!(rt; target.put(b"lo"), Ok(2), "call 3");
+    assert_eq!(rt; target.bytes(), b"hello".as_slice());
+    Ok(())
+}
+
+#[test]
+fn a_sink_takes_pieces(rt: HostRuntime) -> Result<(), Fail> {
+    let alloc = rt.alloc();
+    let mut sink = MemSink::new(alloc, 4, only(alloc, 1)?);
+    assert_eq!(rt; sink.put(b"valid"), Ok(4), "call 0");
+    assert_eq!(rt; sink.put(b"d\n"), Err(Failed), "call 1");
+    assert_eq!(rt; sink.put(b"d\n"), Ok(2), "call 2");
+    assert_eq!(rt; sink.bytes(), b"valid\n".as_slice());
+    Ok(())
+}
