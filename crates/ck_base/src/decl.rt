@@ -1,6 +1,7 @@
 //! Sorts, and the table of declared names.
 
-ghost use Rattle.std.specs.Prelude.{◌≡◌, []};
+ghost use Rattle.std.specs.Prelude.{◌≡◌, [], slice_get};
+ghost use Rattle.std.specs.Option.{option_copied};
 
 use crate::text::Text;
 use indexmap::IndexMap;
@@ -52,5 +53,13 @@ impl Decls {
         Decls {
             table: IndexMap::new(alloc),
         }
+    }
+
+    /// The declaration of that number; `None` exactly where there is none. It takes no memory.
+    pub fn at(&self, number: u32) -> Option<&Decl>
+        ensures { option_copied result ≡ slice_get self.now number }
+    {
+        let (_, decl) = self.table.get_index(number as usize)?;
+        Some(decl)
     }
 }

@@ -2,3 +2,4 @@ pub mod Tree
 pub mod Truth
 pub mod Sorts
 pub mod Substitution
+pub mod Context

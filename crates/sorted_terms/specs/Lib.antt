@@ -2,3 +2,4 @@ pub mod Tree
 pub mod Values
 pub mod Sorts
 pub mod Substitution
+pub mod Variables

@@ -1,6 +1,7 @@
 -- Sorts, size and depth of terms.
-use Rattle.std.specs.Prelude.{◌≡◌, ℕ, ◌+◌, ◌<◌, max, Bool, true, false, ◌&&◌, List, Option, Some, None, slice_get, ◌==◌, if◌then◌else◌, nat_le, ℤ}
+use Rattle.std.specs.Prelude.{◌≡◌, ℕ, ◌+◌, ◌<◌, max, Bool, true, false, ◌&&◌, List, [], ◌∷◌, ◌++◌, Option, Some, None, is_none, slice_get, ◌==◌, if◌then◌else◌, nat_le, ℤ}
 use Rattle.std.specs.Option.{option_map}
+use Rattle.std.specs.List.{position_from}
 use Rattle.ck_base.specs.declared.decl.Sort.{Sort}
 use Rattle.ck_base.specs.declared.decl.Sort.TheVariants as sort
 use Rattle.ck_base.specs.declared.decl.Decl.{Decl}
@@ -62,3 +63,20 @@ term_depth (integer n) = 1
 term_depth (boolean b) = 1
 term_depth (unary sign t) = 1 + term_depth t
 term_depth (binary sign s t) = 1 + max (term_depth s) (term_depth t)
+
+-- a term and all its parts in post-order: parts first, the left one before the right one
+abbrev pub subterms : TermTree → List TermTree
+subterms (name x) = name x ∷ []
+subterms (index k) = index k ∷ []
+subterms (integer n) = integer n ∷ []
+subterms (boolean b) = boolean b ∷ []
+subterms (unary sign t) = subterms t ++ unary sign t ∷ []
+subterms (binary sign s t) = subterms s ++ (subterms t ++ binary sign s t ∷ [])
+
+-- the first subterm without a sort, by its number in post-order, where the numbers begin at `first`
+unfoldable pub bad_place_from : List Decl → List Sort → ℕ → TermTree → Option ℕ
+bad_place_from names variables first t = position_from (λ u. is_none (sort_of names variables u)) first (subterms t)
+
+-- the same, where the numbers begin at 0
+abbrev pub bad_place : List Decl → List Sort → TermTree → Option ℕ
+bad_place names variables t = bad_place_from names variables 0 t

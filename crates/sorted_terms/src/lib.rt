@@ -1,10 +1,18 @@
 //! Terms over integers and truth values, with declared names and bound variables.
 //!
 //! It stands on `ck_base`. Its definitions are in `specs/`: the tree of a term (`Tree.antt`), the values
-//! of terms (`Values.antt`), their sorts, size and depth (`Sorts.antt`), and substitution
-//! (`Substitution.antt`).
+//! of terms (`Values.antt`), their sorts, size and depth, and the place of a fault (`Sorts.antt`), scopes
+//! of bound variables (`Variables.antt`), and substitution (`Substitution.antt`).
 #![tactic(auto)]
 
+pub mod copying;
+pub mod measures;
+pub mod sorts;
 pub mod term;
+pub mod variables;
 
+pub use copying::{copy, same};
+pub use measures::{depth, size, spend};
+pub use sorts::{BadSort, sort_of, sort_under};
 pub use term::Term;
+pub use variables::{Variables, sort_at};
