@@ -1,0 +1,20 @@
+use Rattle.std.proofs.lemmas.Result.{err_from_is_err_and}
+use Rattle.formulas.specs.Tree.{formula_tree}
+use Rattle.proof_terms.specs.Tree.{proof_tree}
+use Rattle.formulas.specs.Context.{variables_of, hypotheses_of}
+use Rattle.type_checker.proofs.Exact.{has, none_from, place_from}
+use Rattle.type_checker.proofs.typing.type_of.Goals as goal
+
+pub returns-in_err-typed-clause-none : goal.returns-in_err-typed-clause-none
+returns-in_err-typed-clause-none c =
+    let p = err_from_is_err_and c.from_residual.result c.from_residual.ensures.1 in
+    none_from c.args.decls.now (variables_of c.args.context.now) (hypotheses_of c.args.context.now) (proof_tree c.args.p.now) c.from_residual.result p.0 c.in_err-typed.field-0.0 p.1 p.2 c.in_err-typed.ensures.gives
+
+pub returns-in_err-typed-clause-place : goal.returns-in_err-typed-clause-place
+returns-in_err-typed-clause-place c =
+    let p = err_from_is_err_and c.from_residual.result c.from_residual.ensures.1 in
+    place_from c.args.decls.now (variables_of c.args.context.now) (hypotheses_of c.args.context.now) (proof_tree c.args.p.now) c.from_residual.result p.0 c.in_err-typed.field-0.0 p.1 p.2 c.in_err-typed.ensures.gives
+
+pub returns-clause-ok : goal.returns-clause-ok
+returns-clause-ok c =
+    (has c.args.decls.now (variables_of c.args.context.now) (hypotheses_of c.args.context.now) (proof_tree c.args.p.now) 0 (formula_tree c.in_ok-typed.typed.formula) c.in_ok-typed.field-0-1 c.in_ok-typed.ensures.gives).0
