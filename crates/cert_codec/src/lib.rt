@@ -5,5 +5,10 @@
 #![tactic(auto)]
 
 pub mod certificate;
+pub mod fault;
+mod reading;
+mod tags;
 
 pub use certificate::{Certificate, Node, RawCertificate};
+pub use fault::DecodeFault;
+pub use reading::decode;

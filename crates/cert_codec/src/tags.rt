@@ -1,0 +1,22 @@
+//! The bytes with a meaning of their own in the spelling of a certificate.
+
+/// The first four bytes, "CKT1".
+pub(crate) const MAGIC: [u8; 4] = [0x43, 0x4B, 0x54, 0x31];
+
+/// The term `true`.
+pub(crate) const TRUE: u8 = 0x18;
+
+/// The formula `bottom`.
+pub(crate) const BOTTOM: u8 = 0x30;
+
+/// A term as a formula.
+pub(crate) const HOLDS: u8 = 0x31;
+
+/// A hypothesis by its index.
+pub(crate) const HYP: u8 = 0x40;
+
+/// A proof of an implication, under a new hypothesis.
+pub(crate) const LAM: u8 = 0x41;
+
+/// The node of the program `skip`.
+pub(crate) const SKIP: u8 = 0x60;
