@@ -1,10 +1,12 @@
 -- Valid files: what `check` accepts, from the bytes alone.
-use Rattle.std.specs.Prelude.{◌≡◌, ℕ, ◌+◌, ◌≤◌, true, List, [], length}
+use Rattle.std.specs.Prelude.{◌≡◌, ℕ, ◌+◌, ◌≤◌, true, List, [], length, Result, Ok, Err}
 use Rattle.ck_base.specs.Names.{AreNames}
 use Rattle.formulas.specs.Sorts.{well_sorted, size}
 use Rattle.proof_terms.specs.Size.{proof_size}
 use Rattle.cert_codec.specs.Tree.{NodeTree, skip, CertificateTree}
 use Rattle.cert_codec.specs.Spelling.{Spells, IsSpelling}
+use Rattle.cocktail.specs.declared.cert_check.CheckFault.{CheckFault}
+use Rattle.cocktail.specs.declared.cert_check.CheckFault.TheVariants as faults
 use Rattle.cocktail.specs.Proves.{Proves, program_of}
 use Rattle.cocktail.specs.Runs.{Meets}
 
@@ -55,3 +57,9 @@ abbrev pub Complains : List ℕ → Complaint → Type 0
 Complains bytes malformed = IsSpelling bytes → ⊥
 Complains bytes unproved =
     IsSpelling bytes × ((c : CertificateTree) → Spells bytes c → Proves c.names c.pre c.node c.post → ⊥)
+
+-- what holds of the place, where the answer is that the bytes are malformed
+abbrev pub IfMalformed : {A : Type 0} → Result A CheckFault → (ℕ → Type 0) → Type 0
+IfMalformed (Ok c) P = Unit {0}
+IfMalformed (Err (faults.Malformed at)) P = P at
+IfMalformed (Err fault) P = Unit {0}

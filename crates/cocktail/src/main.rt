@@ -30,14 +30,14 @@ fn main(rt: HostRuntime) -> ExitCode {
 
 // Runs the tool on the real outside. Words that are not UTF-8 are no command, as no words are.
 fn run(rt: &HostRuntime) -> Status {
-    match words(rt) {
+    match words_of(rt) {
         Ok(words) => run_words(rt, words.as_slice()),
         Err(e) if e.kind() == io::ErrorKind::OutOfMemory => Status::NoMemory,
         Err(_) => run_words(rt, &[]),
     }
 }
 
-fn words(rt: &HostRuntime) -> io::Result<Vec<String>> {
+fn words_of(rt: &HostRuntime) -> io::Result<Vec<String>> {
     Ok(env::args(rt)?.skip(1).collect(rt.alloc())?)
 }
 

@@ -84,7 +84,7 @@ pub fn cocktail<I: Origin, T: Target, O: Sink>(
             Ok(()) => Status::Done,
             Err(_) => Status::OutFault,
         },
-        Err(CheckFault::Malformed) => reported(out, b"refused Malformed\n", Status::Refused),
+        Err(CheckFault::Malformed { .. }) => reported(out, b"refused Malformed\n", Status::Refused),
         Err(CheckFault::Unproved) => reported(out, b"refused Unproved\n", Status::Refused),
         Err(CheckFault::NoMemory) => Status::NoMemory,
         Err(CheckFault::TooLong) => unreachable!(),
