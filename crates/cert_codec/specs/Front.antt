@@ -10,8 +10,8 @@ use Rattle.cert_codec.specs.Spelling.{spell_number, spell_formula, spell_proof, 
 
 -- for each byte of a proof's spelling, how many proof levels stand around it, its own included
 abbrev pub proof_levels : ℕ → ProofTree → List ℕ
-proof_levels level (hypothesis k) = replicate (1 + length (spell_number k)) level
-proof_levels level (lambda a p) = replicate (1 + length (spell_formula a)) level ++ proof_levels (suc level) p
+proof_levels level (hypothesis k) = replicate (suc (length (spell_number k))) level
+proof_levels level (lambda a p) = replicate (suc (length (spell_formula a))) level ++ proof_levels (suc level) p
 proof_levels level p = replicate (length (spell_proof p)) level
 
 abbrev pub node_levels : NodeTree → List ℕ

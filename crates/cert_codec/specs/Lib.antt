@@ -1,3 +1,5 @@
 pub mod Tree
 pub mod Spelling
 pub mod Front
+pub mod Laws
+pub mod Reading

@@ -20,3 +20,6 @@ pub(crate) const LAM: u8 = 0x41;
 
 /// The node of the program `skip`.
 pub(crate) const SKIP: u8 = 0x60;
+
+/// The count of declared names.
+pub(crate) const NO_NAMES: u8 = 0;

@@ -1,0 +1,4 @@
+pub mod Readers
+pub mod Numbers
+pub mod Trees
+pub mod Whole

@@ -1,0 +1,142 @@
+//! The parts of certificates, each with the bytes after it.
+
+ghost use Rattle.std.specs.Prelude.{◌≡◌, ◌<◌, ◌≤◌, ◌*◌, ◌^◌, ◌==◌, length, IfOk};
+ghost use Rattle.formulas.specs.Tree.{formula_tree};
+ghost use Rattle.proof_terms.specs.Tree.{proof_tree};
+ghost use Rattle.cert_codec.specs.Tree.{node_tree, certificate_tree};
+ghost use Rattle.cert_codec.specs.Reading.{Gives, one, high_at, number_at, formula_at, proof_at, node_at, certificate_at};
+
+use crate::certificate::{Node, RawCertificate};
+use crate::stop::{Stop, malformed};
+use crate::tags::{BOTTOM, HOLDS, HYP, LAM, MAGIC, NO_NAMES, SKIP, TRUE};
+use ck_base::List;
+use formulas::Formula;
+use proof_terms::Proof;
+use sorted_terms::Term;
+use std::alloc::Global;
+
+/// The first byte that has the high bit, by which all bytes of a number but the last are marked.
+const HIGH_BIT: u8 = 0x80;
+
+/// The bytes of a number that may follow its first two.
+const MORE_DIGITS: u32 = 3;
+
+/// No proof of a node is deeper.
+const MAX_LEVELS: u32 = 2_048;
+
+fn expect(tag: u8, bytes: &[u8]) -> Result<&[u8], Stop>
+    ensures { Gives (λ rest. (tag, rest.now)) result (one (λ x. x == tag) bytes.now) }
+{
+    match bytes {
+        [first, rest @ ..] if *first == tag => Ok(rest),
+        _ => Err(malformed(bytes)),
+    }
+}
+
+/// A number's digits after the first, of which the last is not 0: else the number has fewer digits.
+#[tactic(auto, unfolding(crate::specs::Reading::high_at))]
+fn high_of(more: u32, bytes: &[u8]) -> Result<(u32, &[u8]), Stop>
+    requires { more ≤ 3 }
+    ensures gives { Gives (λ x. (x.0, x.1.now)) result (high_at more bytes.now) }
+    ensures below { IfOk result (λ x. x.0 < 16 * 128 ^ more) }
+{
+    let [first, rest @ ..] = bytes else {
+        return Err(malformed(bytes));
+    };
+    let first = *first;
+    let limit = if more == 0 { 16 } else { HIGH_BIT };
+    if first == 0 {
+        return Err(malformed(bytes));
+    }
+    if first < limit {
+        return Ok((u32::from(first), rest));
+    }
+    if more == 0 {
+        return Err(malformed(bytes));
+    }
+    let (high, rest) = high_of(more - 1, rest)?;
+    Ok((128 * high + u32::from(first - HIGH_BIT), rest))
+}
+
+#[tactic(auto, unfolding(crate::specs::Reading::number_at))]
+fn number_of(bytes: &[u8]) -> Result<(u32, &[u8]), Stop>
+    ensures { Gives (λ x. (x.0, x.1.now)) result (number_at bytes.now) }
+{
+    let [first, rest @ ..] = bytes else {
+        return Err(malformed(bytes));
+    };
+    let first = *first;
+    if first < HIGH_BIT {
+        return Ok((u32::from(first), rest));
+    }
+    let (high, rest) = high_of(MORE_DIGITS, rest)?;
+    Ok((128 * high + u32::from(first - HIGH_BIT), rest))
+}
+
+#[tactic(auto, unfolding(crate::specs::Reading::formula_at))]
+fn formula_of(bytes: &[u8]) -> Result<(Formula, &[u8]), Stop>
+    ensures { Gives (λ x. (formula_tree x.0, x.1.now)) result (formula_at bytes.now) }
+{
+    match bytes {
+        [BOTTOM, rest @ ..] => Ok((Formula::Bottom, rest)),
+        [HOLDS, rest @ ..] => {
+            let rest = expect(TRUE, rest)?;
+            Ok((Formula::Holds(Term::Truth(true)), rest))
+        }
+        _ => Err(malformed(bytes)),
+    }
+}
+
+#[tactic(auto, unfolding(crate::specs::Reading::proof_at))]
+fn proof_of(alloc: Global, levels: u32, bytes: &[u8]) -> Result<(Proof, &[u8]), Stop>
+    ensures { Gives (λ x. (proof_tree x.0, x.1.now)) result (proof_at levels bytes.now) }
+{
+    if levels == 0 {
+        return Err(malformed(bytes));
+    }
+    match bytes {
+        [HYP, rest @ ..] => {
+            let (place, rest) = number_of(rest)?;
+            Ok((Proof::Hyp(place), rest))
+        }
+        [LAM, rest @ ..] => {
+            let (a, rest) = formula_of(rest)?;
+            let (p, rest) = proof_of(alloc, levels - 1, rest)?;
+            Ok((Proof::Lam(a, Box::new(alloc, p)?), rest))
+        }
+        _ => Err(malformed(bytes)),
+    }
+}
+
+#[tactic(auto, unfolding(crate::specs::Reading::node_at))]
+fn node_of(alloc: Global, bytes: &[u8]) -> Result<(Node, &[u8]), Stop>
+    ensures { Gives (λ x. (node_tree x.0, x.1.now)) result (node_at bytes.now) }
+{
+    let rest = expect(SKIP, bytes)?;
+    let (p, rest) = proof_of(alloc, MAX_LEVELS, rest)?;
+    Ok((Node::Skip(p), rest))
+}
+
+#[tactic(auto, unfolding(crate::specs::Reading::certificate_at))]
+pub(crate) fn certificate_of(alloc: Global, bytes: &[u8]) -> Result<(RawCertificate, &[u8]), Stop>
+    ensures { Gives (λ x. (certificate_tree x.0, x.1.now)) result (certificate_at bytes.now) }
+{
+    let rest = expect(MAGIC[0], bytes)?;
+    let rest = expect(MAGIC[1], rest)?;
+    let rest = expect(MAGIC[2], rest)?;
+    let rest = expect(MAGIC[3], rest)?;
+    let rest = expect(NO_NAMES, rest)?;
+    let (pre, rest) = formula_of(rest)?;
+    let (post, rest) = formula_of(rest)?;
+    let (node, rest) = node_of(alloc, rest)?;
+    let decls = List::new(alloc);
+    Ok((
+        RawCertificate {
+            decls,
+            pre,
+            post,
+            node,
+        },
+        rest,
+    ))
+}
