@@ -1,5 +1,5 @@
 -- The walk gives a proof the formula that it has, and the place of its fault where it has none.
-use Rattle.std.proofs.Common.{◌≡◌, ℕ, zero, suc, ◌+◌, ◌≤◌, Bool, true, false, ◌&&◌, nat_le, max, if◌then◌else◌, List, [], ◌∷◌, ◌++◌, length, Option, Some, None, slice_get, Result, Ok, Err, IfErr, refl, sym, ◌∙◌, ap, subst, arith}
+use Rattle.std.proofs.Common.{◌≡◌, ℕ, zero, suc, ◌+◌, ◌≤◌, Bool, true, false, nat_le, max, if◌then◌else◌, List, [], ◌∷◌, ◌++◌, length, Option, Some, None, slice_get, Result, Ok, Err, IfErr, refl, sym, ◌∙◌, ap, subst, arith}
 use Rattle.std.proofs.lemmas.Bool.{and_parts, and_from, leb-true, le-leb}
 use Rattle.ck_base.specs.declared.decl.Decl.{Decl}
 use Rattle.ck_base.specs.declared.decl.Sort.{Sort}
@@ -11,7 +11,7 @@ use Rattle.type_checker.specs.declared.untyped.Untyped.{Untyped}
 use Rattle.type_checker.specs.declared.untyped.Untyped.TheVariants.{At, NoMemory}
 use Rattle.type_checker.specs.Typing.{Has}
 use Rattle.type_checker.specs.Place.{proof_nodes, Subproof, is_assumable, determined, undetermined, subproofs, IsUntyped, IsPassed, IsFirstUntyped, IfAt}
-use Rattle.type_checker.specs.Walk.{Walk, found, found_at, found_under, walked, Gives}
+use Rattle.type_checker.specs.Walk.{Walk, found_at, found_under, walked, Gives}
 
 -- a walk does not both give a formula and end at a place
 apart : (r : FormulaTree × ℕ) (place : ℕ) → ◌≡◌ {A = Walk} (Ok r) (Err place) → ⊥

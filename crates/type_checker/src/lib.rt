@@ -14,3 +14,6 @@ mod walk;
 
 pub use typing::type_of;
 pub use untyped::Untyped;
+
+#[cfg(test)]
+mod tests;

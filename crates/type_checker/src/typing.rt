@@ -18,7 +18,6 @@ use sorted_terms::Variables;
 use std::alloc::Global;
 
 /// The formula that the proof has in the context, by the rules of formulas as types (Barendregt 1992).
-/// A proof has at most one.
 ///
 /// `Untyped::At` where it has none: `place` is the number of the first subproof that has none in its own
 /// context. Proof nodes are numbered from 0 in post-order. A lambda's part is counted and passed over
