@@ -1,5 +1,5 @@
 -- What holds of every certificate of the part of the form that is built.
-use Rattle.std.proofs.Common.{◌≡◌, ℕ, ◌+◌, ◌*◌, ◌^◌, ◌<◌, ◌≤◌, true, List, [], refl, sym, subst, arith, length}
+use Rattle.std.proofs.Common.{◌≡◌, ℕ, ◌+◌, ◌*◌, ◌^◌, ◌<◌, ◌≤◌, true, List, [], ◌∷◌, refl, sym, ap, ◌∙◌, subst, arith, length}
 use Rattle.ck_base.specs.declared.decl.Decl.{Decl}
 use Rattle.ck_base.specs.declared.decl.Sort.{Sort}
 use Rattle.ck_base.specs.Names.{AreNames}
@@ -12,9 +12,10 @@ use Rattle.type_checker.specs.Built.{IsBuilt as IsBuiltTerm}
 use Rattle.type_checker.specs.Place.{proof_nodes}
 use Rattle.type_checker.specs.Typing.{Has}
 use Rattle.cert_codec.specs.Tree.{NodeTree, skip, CertificateTree}
-use Rattle.cert_codec.specs.Spelling.{is_built_formula, IsBuiltProof, IsBuilt, Spells}
+use Rattle.cert_codec.specs.Spelling.{is_built_formula, IsBuiltProof, IsBuiltNode, IsShallowNode, IsBuilt, Spells}
+use Rattle.cert_codec.proofs.Whole.{one_spelling}
 use Rattle.cocktail.specs.Proves.{Proves}
-use Rattle.cocktail.specs.Valid.{IsFileOf, AreSorted, IsSmall, node_size}
+use Rattle.cocktail.specs.Valid.{IsFileOf, AreSorted, IsSmall, node_size, Valid, Complaint, malformed, unproved, Complains}
 
 -- the typing rules of a built proof are built
 pub built_proof : (p : ProofTree) → IsBuiltProof p → IsBuiltTerm p
@@ -53,8 +54,8 @@ names_hold names e = subst AreNames (sym e) tt
 sorted_certificate : (c : CertificateTree) → IsBuilt c → AreSorted c
 sorted_certificate c h = record { pre = sorted_formula c.names [] c.pre h.pre; post = sorted_formula c.names [] c.post h.post }
 
-small_node : (bytes : List ℕ) (c : CertificateTree) → Spells bytes c → node_size c.node ≤ 6145
-small_node bytes c h = ?
+small_node : (node : NodeTree) → IsBuiltNode node → IsShallowNode node → node_size node ≤ 6145
+small_node (skip p) h shallow = omega (arith, small_proof p h)
 
 -- a built certificate whose obligation has its term is that of a valid file
 pub is_file : (bytes : List ℕ) (c : CertificateTree) → length bytes ≤ 4194304 → Spells bytes c → Proves c.names c.pre c.node c.post → IsFileOf c bytes
@@ -66,7 +67,7 @@ is_file bytes c short h proved = record {
   small = record {
     pre = omega (arith, small_formula c.pre h.built.pre);
     post = omega (arith, small_formula c.post h.built.post);
-    whole = omega (arith, small_formula c.pre h.built.pre, small_formula c.post h.built.post, small_node bytes c h);
+    whole = omega (arith, small_formula c.pre h.built.pre, small_formula c.post h.built.post, small_node c.node h.built.node h.shallow);
   };
   proved = proved;
 }
@@ -74,5 +75,17 @@ is_file bytes c short h proved = record {
 -- a proof has at most one formula
 pub one_formula : (names : List Decl) (variables : List Sort) (hypotheses : List FormulaTree) (p : ProofTree) (a b : FormulaTree) → Has names variables hypotheses p a → Has names variables hypotheses p b → a ≡ b
 one_formula names variables hypotheses (hypothesis k) a b h g = cc (h.1, g.1)
-one_formula names variables hypotheses (lambda c p) a b h g = ?
+one_formula names variables hypotheses (lambda c p) a b h g =
+    h.4 ∙ ap (joined implies c) (one_formula names variables (c ∷ hypotheses) p h.2 g.2 h.3 g.3) ∙ sym g.4
 one_formula names variables hypotheses p a b h g = absurd h
+
+-- whatever certificate the bytes spell, its obligation has not its term
+pub unproved_whichever : (bytes : List ℕ) (c : CertificateTree) → Spells bytes c → (Proves c.names c.pre c.node c.post → ⊥) → Complains bytes unproved
+unproved_whichever bytes c h refuted = ((c, h), λ d g proved.
+    let same : d ≡ c = one_spelling d c g.built g.shallow h.built h.shallow (g.spelled ∙ sym h.spelled) in
+    refuted (subst (λ (e : CertificateTree). Proves e.names e.pre e.node e.post) same proved))
+
+-- a file of which a complaint holds is not valid
+pub complaint_holds : (bytes : List ℕ) (complaint : Complaint) → Complains bytes complaint → Valid bytes → ⊥
+complaint_holds bytes malformed h (c, file) = h (c, file.spells)
+complaint_holds bytes unproved h (c, file) = h.1 c file.spells file.proved

@@ -62,10 +62,11 @@ pub fn check(alloc: Global, bytes: &[u8]) -> Result<Certificate, CheckFault>
         Err(DecodeFault::NoMemory) => return Err(CheckFault::NoMemory),
     };
     let certificate = named(alloc, raw);
-    if !is_proved(alloc, &certificate)? {
-        return Err(CheckFault::Unproved);
+    if is_proved(alloc, &certificate)? {
+        Ok(certificate)
+    } else {
+        Err(CheckFault::Unproved)
     }
-    Ok(certificate)
 }
 
 // The certificate with a table of its declarations. No name is declared in what is built of the form.
