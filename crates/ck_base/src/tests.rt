@@ -1,6 +1,7 @@
 //! Each public call once, with ample memory. The expected values were worked out by hand.
 
-ghost use Rattle.std.specs.Prelude.{◌≡◌, true, IfOk};
+ghost use Rattle.std.specs.Prelude.{◌≡◌, ◌<◌, true, length, IfOk};
+ghost use Rattle.ck_base.specs.Outside.{begun, fresh};
 
 use super::*;
 use std::alloc::Global;
@@ -45,19 +46,32 @@ fn read(origin: &mut MemOrigin) -> Result<(usize, [u8; 4]), Failed>
     Ok((n, buf))
 }
 
+/// Puts once, and answers what the target took.
+fn put(target: &mut MemTarget, bytes: &[u8]) -> Result<usize, Failed>
+    requires begun { target.old.stage ≡ begun }
+    requires piece { 0 < length bytes.now }
+    ensures { target.new.stage ≡ begun }
+{
+    target.put(bytes)
+}
+
 #[test]
 fn a_list_keeps_its_items_in_order(rt: HostRuntime) -> Result<(), Fail> {
-    let mut numbers: List<u64> = List::new(rt.alloc());
-    assert_eq!(rt; numbers.pop(), None);
-    numbers.push(5)?;
-    numbers.push(7)?;
-    assert_eq!(rt; numbers.set(0, 6), 5);
+    let numbers = list(rt.alloc(), &[5, 7])?;
     assert_eq!(rt; numbers.len(), 2);
     assert_eq!(rt; numbers.get(1), Some(&7));
     assert_eq!(rt; numbers.get(2), None);
-    assert_eq!(rt; numbers.as_slice(), [6, 7].as_slice());
-    assert_eq!(rt; numbers.pop(), Some(7));
-    assert_eq!(rt; numbers.as_slice(), [6].as_slice());
+    assert_eq!(rt; numbers.as_slice(), [5, 7].as_slice());
+    Ok(())
+}
+
+#[test]
+fn a_list_gives_items_back(rt: HostRuntime) -> Result<(), Fail> {
+    let mut numbers: List<u64> = only(rt.alloc(), 5)?;
+    assert!(rt; numbers.len() == 1);
+    assert_eq!(rt; numbers.set(0, 6), 5);
+    assert_eq!(rt; numbers.pop(), Some(6));
+    assert_eq!(rt; numbers.pop(), None);
     Ok(())
 }
 
@@ -94,18 +108,30 @@ fn an_origin_reads_in_pieces(rt: HostRuntime) -> Result<(), Fail> {
     Ok(())
 }
 
+/// A target of one name and pieces of three bytes, whose call of that number fails.
+fn target(alloc: Global, failing: u64) -> Result<MemTarget, NoMemory>
+    ensures { IfOk result (λ target. target.stage ≡ fresh) }
+{
+    let name = text(alloc, "out")?;
+    Ok(MemTarget::new(alloc, name, 3, only(alloc, failing)?))
+}
+
 #[test]
-fn a_target_takes_one_name(rt: HostRuntime) -> Result<(), Fail> {
-    let alloc = rt.alloc();
-    let mut spent = MemTarget::new(alloc, text(alloc, "out")?, 3, List::new(alloc));
-    assert_eq!(rt; spent.create("other"), Err(Failed));
-    assert_eq!(rt; spent.bytes(), b"".as_slice());
-    let mut target = MemTarget::new(alloc, text(alloc, "out")?, 3, only(alloc, 2)?);
+fn a_target_takes_its_name(rt: HostRuntime) -> Result<(), Fail> {
+    let mut target = target(rt.alloc(), 2)?;
     target.create("out")?;
-    assert_eq!(rt; target.put(b"hello"), Ok(3), "call 1");
-    assert_eq!(rt; target.put(b"lo"), Err(Failed), "call 2");
-    assert_eq!(rt; target.put(b"lo"), Ok(2), "call 3");
+    assert_eq!(rt; put(&mut target, b"hello"), Ok(3), "call 1");
+    assert_eq!(rt; put(&mut target, b"lo"), Err(Failed), "call 2");
+    assert_eq!(rt; put(&mut target, b"lo"), Ok(2), "call 3");
     assert_eq!(rt; target.bytes(), b"hello".as_slice());
+    Ok(())
+}
+
+#[test]
+fn a_target_takes_no_other_name(rt: HostRuntime) -> Result<(), Fail> {
+    let mut target = target(rt.alloc(), 2)?;
+    assert_eq!(rt; target.create("other"), Err(Failed));
+    assert_eq!(rt; target.bytes(), b"".as_slice());
     Ok(())
 }
 
