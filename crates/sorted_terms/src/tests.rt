@@ -29,71 +29,90 @@ fn denials(alloc: Global, levels: u32) -> Result<Term, NoMemory> {
     Ok(t)
 }
 
-fn place_of(answer: Result<Sort, BadSort>) -> Option<u32> {
-    match answer {
-        Ok(_) => None,
-        Err(fault) => Some(fault.place),
+/// The sorts int for index 0 and bool for index 1.
+fn two_sorts(alloc: Global) -> Result<List<Sort>, NoMemory> {
+    let mut vars = List::new(alloc);
+    vars.push(Sort::Bool)?;
+    vars.push(Sort::Int)?;
+    Ok(vars)
+}
+
+/// The sort of a term of less than 100 nodes and levels, or the place where it has none.
+fn sort_or_place(alloc: Global, vars: &List<Sort>, t: &Term) -> Option<Result<Sort, u32>> {
+    let _left = spend(t, 100, 100)?;
+    match sort_of(&Decls::new(alloc), vars, t) {
+        Ok(sort) => Some(Ok(sort)),
+        Err(fault) => Some(Err(fault.place)),
     }
 }
 
 #[test]
-fn copies_and_measures(rt: HostRuntime) -> Result<(), Fail> {
+fn copies(rt: HostRuntime) -> Result<(), Fail> {
     let t = sum_below(rt.alloc(), Term::Bound(1))?;
-    assert_eq!(rt; spend(&t, 10, 4), Some(3));
-    assert_eq!(rt; spend(&t, 6, 4), None);
-    assert_eq!(rt; spend(&t, 7, 3), None);
-    let _left = spend(&t, 7, 4).ok_or("more than 7 nodes")?;
-    assert_eq!(rt; size(&t), 7);
-    assert_eq!(rt; depth(&t), 4);
     let copied = copy(rt.alloc(), &t)?;
     assert!(rt; same(&t, &copied));
-    let other = sum_below(rt.alloc(), Term::Bound(0))?;
-    assert!(rt; !same(&t, &other));
+    assert!(rt; !same(&t, &Term::Bound(1)));
     Ok(())
 }
 
 #[test]
-fn finds_sorts_and_places(rt: HostRuntime) -> Result<(), Fail> {
-    let alloc = rt.alloc();
-    let decls = Decls::new(alloc);
-    let mut vars = List::new(alloc);
-    vars.push(Sort::Bool)?;
-    vars.push(Sort::Int)?;
+fn measures(rt: HostRuntime) -> Result<(), Fail> {
+    let t = sum_below(rt.alloc(), Term::Bound(1))?;
+    assert_eq!(rt; spend(&t, 6, 4), None);
+    assert_eq!(rt; spend(&t, 7, 3), None);
+    assert_eq!(rt; spend(&t, 10, 4), Some(3));
+    assert_eq!(rt; size(&t), 7);
+    assert_eq!(rt; depth(&t), 4);
+    Ok(())
+}
 
-    let well = sum_below(alloc, Term::Bound(1))?;
-    let _left = spend(&well, 7, 4).ok_or("more than 7 nodes")?;
-    assert!(rt; sort_of(&decls, &vars, &well).is_ok());
+#[test]
+fn finds_sorts(rt: HostRuntime) -> Result<(), Fail> {
+    let alloc = rt.alloc();
+    let vars = two_sorts(alloc)?;
+    let t = sum_below(alloc, Term::Bound(1))?;
+    assert_eq!(rt; sort_or_place(alloc, &vars, &t), Some(Ok(Sort::Bool)));
 
     let outer = Variables::Outer(&vars);
     let inner = Variables::Under(Sort::Bool, &outer);
     assert_eq!(rt; sort_at(&inner, 2), Some(Sort::Bool));
     assert_eq!(rt;
-        sort_under(&decls, &inner, &Term::Bound(1)),
+        sort_under(&Decls::new(alloc), &inner, &Term::Bound(1)),
         Some(Sort::Int)
     );
-    assert_eq!(rt; sort_under(&decls, &outer, &Term::Bound(2)), None);
-    assert_eq!(rt; sort_under(&decls, &outer, &well), Some(Sort::Bool));
+    assert_eq!(rt;
+        sort_under(&Decls::new(alloc), &outer, &Term::Bound(2)),
+        None
+    );
+    Ok(())
+}
 
-    // The last node is at fault: `and` with a number.
-    let whole = sum_below(alloc, Term::Bound(0))?;
-    let _left = spend(&whole, 7, 4).ok_or("more than 7 nodes")?;
-    assert_eq!(rt; place_of(sort_of(&decls, &vars, &whole)), Some(6));
+#[test]
+fn finds_places(rt: HostRuntime) -> Result<(), Fail> {
+    let alloc = rt.alloc();
+    let vars = two_sorts(alloc)?;
 
-    // A sum in the middle is: its left part, number 1, is a truth value, and number 2 is right.
-    let sum = add(alloc, Term::Truth(true), Term::Bound(0))?;
-    let middle = less(alloc, Term::Int(1), sum)?;
-    let _left = spend(&middle, 5, 3).ok_or("more than 5 nodes")?;
-    assert_eq!(rt; place_of(sort_of(&decls, &vars, &middle)), Some(3));
+    // `and` takes no number, and is the last of 7 nodes.
+    let t = sum_below(alloc, Term::Bound(0))?;
+    assert_eq!(rt; sort_or_place(alloc, &vars, &t), Some(Err(6)));
+
+    // The sum takes no truth value. Before it come 1 and its own parts.
+    let t = less(
+        alloc,
+        Term::Int(1),
+        add(alloc, Term::Truth(true), Term::Bound(0))?,
+    )?;
+    assert_eq!(rt; sort_or_place(alloc, &vars, &t), Some(Err(3)));
 
     // No name is declared.
-    assert_eq!(rt; place_of(sort_of(&decls, &vars, &Term::Var(0))), Some(0));
+    assert_eq!(rt; sort_or_place(alloc, &vars, &Term::Var(0)), Some(Err(0)));
     Ok(())
 }
 
 #[test]
 fn goes_deep(rt: HostRuntime) -> Result<(), Fail> {
     let t = denials(rt.alloc(), 1_024)?;
-    let _left = spend(&t, 1_024, 1_024).ok_or("more than 1,024 levels")?;
+    assert_eq!(rt; spend(&t, 1_025, 1_024), Some(1));
     assert_eq!(rt; size(&t), 1_024);
     assert_eq!(rt; depth(&t), 1_024);
     let copied = copy(rt.alloc(), &t)?;
