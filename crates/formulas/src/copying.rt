@@ -7,7 +7,7 @@ use crate::formula::Formula;
 use ck_base::NoMemory;
 use std::alloc::Global;
 
-/// A copy of the formula.
+/// A copy of the formula; `NoMemory` where memory for a node was refused.
 pub fn copy(alloc: Global, a: &Formula) -> Result<Formula, NoMemory>
     ensures { IfOk result (λ r. formula_tree r ≡ formula_tree a.now) }
 {

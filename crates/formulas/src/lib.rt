@@ -16,3 +16,6 @@ pub use copying::{copy, same};
 pub use formula::Formula;
 pub use measures::{depth, fits, size};
 pub use sorts::{well_sorted, well_sorted_under};
+
+#[cfg(test)]
+mod tests;

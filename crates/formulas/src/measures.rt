@@ -36,8 +36,8 @@ pub fn depth(a: &Formula) -> u32
     }
 }
 
-/// Whether the formula fits: it has at most 16,384 nodes and 256 levels. It looks at no more than that
-/// and one, and takes no memory.
+/// Whether the formula fits: it has at most 16,384 nodes and 256 levels. It stops at the first node
+/// beyond either, and takes no memory.
 #[tactic(auto, unfolding(crate::specs::Sorts::fits))]
 pub fn fits(a: &Formula) -> bool
     ensures { result ≡ fits_tree (formula_tree a.now) }

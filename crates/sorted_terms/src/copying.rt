@@ -7,7 +7,7 @@ use crate::term::Term;
 use ck_base::NoMemory;
 use std::alloc::Global;
 
-/// A copy of the term.
+/// A copy of the term; `NoMemory` where memory for a node was refused.
 pub fn copy(alloc: Global, t: &Term) -> Result<Term, NoMemory>
     ensures { IfOk result (λ r. term_tree r ≡ term_tree t.now) }
 {

@@ -16,3 +16,6 @@ pub use measures::{depth, size, spend};
 pub use sorts::{BadSort, sort_of, sort_under};
 pub use term::Term;
 pub use variables::{Variables, sort_at};
+
+#[cfg(test)]
+mod tests;

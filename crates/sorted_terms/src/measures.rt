@@ -7,7 +7,6 @@ ghost use Rattle.sorted_terms.specs.Sorts.{term_size, term_depth};
 use crate::term::Term;
 
 /// The number of nodes.
-#[tactic(auto, using(crate::proofs::Sizes::term_size_positive))]
 pub fn size(t: &Term) -> u32
     requires { term_size (term_tree t.now) < 2 ^ 32 }
     ensures { result ≡ term_size (term_tree t.now) }
@@ -47,7 +46,7 @@ pub fn depth(t: &Term) -> u32
 }
 
 /// What is left of `nodes` after those of the term; `None` where the term has more of them, or more
-/// than `levels` levels. It looks at no more than that and one, and takes no memory.
+/// than `levels` levels. It stops at the first node beyond either, and takes no memory.
 #[tactic(auto, using(crate::proofs::Sizes::term_size_positive, crate::proofs::Sizes::term_depth_positive))]
 pub fn spend(t: &Term, nodes: u32, levels: u32) -> Option<u32>
     ensures within { IfSome result (λ left. (term_size (term_tree t.now) + left ≡ nodes) × (term_depth (term_tree t.now) ≤ levels)) }
