@@ -1,11 +1,11 @@
 -- Numbers are read as they are spelled, and no other bytes are.
-use Rattle.std.proofs.Common.{◌≡◌, ℕ, zero, suc, ◌+◌, ◌-◌, ◌*◌, ◌/◌, ◌%◌, ◌^◌, ◌≤◌, ◌<◌, Bool, true, false, cond, ltb, List, [], ◌∷◌, ◌++◌, length, replicate, Result, Ok, Err, refl, sym, ap, subst, ◌∙◌, arith, inl, inr, ◌⊎◌, pow-suc, mul_comm, nat_lt, if◌then◌else◌}
+use Rattle.std.proofs.Common.{◌≡◌, ℕ, zero, suc, ◌+◌, ◌-◌, ◌*◌, ◌/◌, ◌%◌, ◌^◌, ◌≤◌, ◌<◌, true, false, ltb, List, [], ◌∷◌, length, replicate, refl, sym, ap, subst, ◌∙◌, arith, inl, inr, ◌⊎◌, pow-suc, mul_comm, nat_lt, if◌then◌else◌}
 use mathlib.Core.Logic.{⊎_elim}
-use Rattle.std.proofs.lemmas.Bool.{cases_lt, lt-ltb, le-ltb, ltb-true, ltb-false, leb-true, le-leb, and_parts, and_from}
-use Rattle.std.proofs.lemmas.Nat.{div-mul-add, mod-mul-add, div-add-mod', div_below, mod_below}
+use Rattle.std.proofs.lemmas.Bool.{cases_lt, lt-ltb, le-ltb, ltb-true, leb-true, le-leb, and_parts, and_from}
+use Rattle.std.proofs.lemmas.Nat.{div-mul-add, mod-mul-add, div_below, mod_below}
 use Rattle.cert_codec.specs.Spelling.{number_bytes, spell_number}
-use Rattle.cert_codec.specs.Reading.{Read, one, both, choose, is_last, goes_on, between, with_low, high_at, number_at}
-use Rattle.cert_codec.proofs.Readers.{Laws, Shallow, like, one_laws, both_laws, choose_laws, IsBoth, StartsSo}
+use Rattle.cert_codec.specs.Reading.{Read, one, both, is_last, goes_on, between, with_low, high_at, number_at}
+use Rattle.cert_codec.proofs.Readers.{Laws, like, one_laws, both_laws, choose_laws, IsBoth, StartsSo}
 
 -- ---- bounds
 

@@ -1,5 +1,5 @@
 -- Formulas, proofs, nodes and certificates are read as they are spelled, and no other bytes are.
-use Rattle.std.proofs.Common.{◌≡◌, ℕ, zero, suc, ◌+◌, ◌-◌, ◌≤◌, ◌<◌, Bool, true, false, List, [], ◌∷◌, ◌++◌, length, drop, replicate, refl, sym, ap, subst, ◌∙◌, append_assoc, arith, inl, inr, ◌⊎◌, ◌==◌}
+use Rattle.std.proofs.Common.{◌≡◌, ℕ, zero, suc, ◌+◌, ◌-◌, ◌≤◌, ◌<◌, true, List, [], ◌∷◌, ◌++◌, length, drop, replicate, refl, sym, ap, subst, ◌∙◌, append_assoc, arith, inl, inr, ◌⊎◌, ◌==◌}
 use Rattle.std.proofs.lemmas.List.{length-append, length-replicate, replicate-append-replicate}
 use Rattle.sorted_terms.specs.Tree.{TermTree, boolean}
 use Rattle.formulas.specs.Tree.{FormulaTree, bottom, holds}
@@ -7,8 +7,8 @@ use Rattle.proof_terms.specs.Tree.{ProofTree, hypothesis, lambda}
 use Rattle.cert_codec.specs.Tree.{NodeTree, skip, CertificateTree}
 use Rattle.cert_codec.specs.Spelling.{spell_number, spell_term, spell_formula, spell_proof, spell_node, spell, is_built_formula, IsBuiltProof, IsBuiltNode, IsBuilt}
 use Rattle.cert_codec.specs.Front.{proof_levels, node_levels, levels}
-use Rattle.cert_codec.specs.Reading.{Read, give, one, both, after, choose, number_at, formula_at, proof_at, node_at, certificate_at, with_no_names, paired, same}
-use Rattle.cert_codec.proofs.Readers.{Laws, Shallow, like, give_laws, closed_laws, both_laws, after_laws, choose_laws, IsBoth, IsAfter, StartsSo}
+use Rattle.cert_codec.specs.Reading.{Read, after, formula_at, proof_at, node_at, certificate_at, with_no_names, paired, same}
+use Rattle.cert_codec.proofs.Readers.{Laws, like, give_laws, closed_laws, both_laws, after_laws, choose_laws, IsBoth, IsAfter}
 use Rattle.cert_codec.proofs.Numbers.{flat, IsNumber, number_laws}
 
 -- a tag before the same tree

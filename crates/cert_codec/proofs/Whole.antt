@@ -1,16 +1,16 @@
 -- What is read of all the bytes, and where reading stops.
-use Rattle.std.proofs.Common.{◌≡◌, ℕ, zero, suc, ◌+◌, ◌-◌, ◌≤◌, ◌<◌, Bool, true, false, cond, List, [], ◌∷◌, ◌++◌, length, take, replicate, Result, Ok, Err, refl, sym, ap, subst, ◌∙◌, append_assoc, arith, inl, inr, ◌⊎◌, ◌==◌, max}
-use Rattle.std.proofs.lemmas.List.{length-append, append-nil, take_at, take_all, append_cancel_left}
+use Rattle.std.proofs.Common.{◌≡◌, ℕ, suc, ◌+◌, ◌-◌, ◌≤◌, ◌<◌, Bool, false, cond, List, [], ◌∷◌, ◌++◌, length, take, replicate, Result, Ok, Err, refl, sym, ap, subst, ◌∙◌, append_assoc, arith, inl, inr, ◌⊎◌, ◌==◌}
+use Rattle.std.proofs.lemmas.List.{length-append, append-nil, take_at, take_all}
 use Rattle.std.proofs.lemmas.Bool.Decides.{eqb_tells}
 use Rattle.proof_terms.specs.Tree.{ProofTree, hypothesis, lambda}
 use Rattle.proof_terms.specs.Size.{proof_depth}
 use Rattle.cert_codec.specs.Tree.{NodeTree, skip, CertificateTree}
-use Rattle.cert_codec.specs.Spelling.{spell_number, spell_formula, spell_node, spell, IsBuiltProof, IsBuiltNode, IsBuilt, IsShallowNode, Spells}
+use Rattle.cert_codec.specs.Spelling.{spell_number, spell_formula, spell, IsBuiltProof, IsBuiltNode, IsBuilt, IsShallowNode, Spells}
 use Rattle.cert_codec.specs.Front.{proof_levels, node_levels, levels, BeginsSpelling, IsMalformedAt}
-use Rattle.cert_codec.specs.Reading.{Read, ◌>>=◌, certificate_at, whole_of}
+use Rattle.cert_codec.specs.Reading.{certificate_at, whole_of}
 use Rattle.cert_codec.specs.Laws.{OneSpelling, NoProperPrefix}
-use Rattle.cert_codec.proofs.Readers.{Laws, Stops, Begins, Shallow, shallow_both, shallow_left, shallow_right, shallow_replicate, ok_is, err_is, apart, bind_ok, bind_err}
-use Rattle.cert_codec.proofs.Trees.{certificate_laws, proof_even}
+use Rattle.cert_codec.proofs.Readers.{Begins, Shallow, shallow_both, shallow_right, shallow_replicate, ok_is, err_is, apart, bind_ok, bind_err}
+use Rattle.cert_codec.proofs.Trees.{certificate_laws}
 
 -- ---- levels and depth
 

@@ -1,7 +1,6 @@
 -- What begins a spelling. A front may need a deeper tree to be completed: only its own tags count.
-use Rattle.std.specs.Prelude.{◌≡◌, ℕ, suc, ◌+◌, ◌-◌, ◌<◌, ◌≤◌, List, [], ◌∷◌, ◌++◌, length, take, replicate, Result, Ok, Err}
+use Rattle.std.specs.Prelude.{◌≡◌, ℕ, suc, ◌+◌, ◌-◌, ◌<◌, ◌≤◌, List, ◌∷◌, ◌++◌, length, take, replicate, Result, Ok, Err}
 use Rattle.std.specs.List.{AllByRecursion}
-use Rattle.formulas.specs.Tree.{FormulaTree}
 use Rattle.proof_terms.specs.Tree.{ProofTree, hypothesis, lambda}
 use Rattle.cert_codec.specs.declared.fault.DecodeFault.{DecodeFault}
 use Rattle.cert_codec.specs.declared.fault.DecodeFault.TheVariants as faults

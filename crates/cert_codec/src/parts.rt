@@ -15,15 +15,16 @@ use proof_terms::Proof;
 use sorted_terms::Term;
 use std::alloc::Global;
 
-/// The first byte that has the high bit, by which all bytes of a number but the last are marked.
+/// All bytes of a number but the last have this bit.
 const HIGH_BIT: u8 = 0x80;
 
-/// The bytes of a number that may follow its first two.
+/// At most so many bytes follow the second one of a number.
 const MORE_DIGITS: u32 = 3;
 
-/// No proof of a node is deeper.
+/// No proof of a node has more levels.
 const MAX_LEVELS: u32 = 2_048;
 
+/// The bytes after this one.
 fn expect(tag: u8, bytes: &[u8]) -> Result<&[u8], Stop>
     ensures { Gives (λ rest. (tag, rest.now)) result (one (λ x. x == tag) bytes.now) }
 {
@@ -33,7 +34,8 @@ fn expect(tag: u8, bytes: &[u8]) -> Result<&[u8], Stop>
     }
 }
 
-/// A number's digits after the first, of which the last is not 0: else the number has fewer digits.
+/// What a number's bytes after the first add up to, seven bits each: one byte and at most `more` others.
+/// The last one is not 0, since the number has a spelling of fewer bytes then.
 #[tactic(auto, unfolding(crate::specs::Reading::high_at))]
 fn high_of(more: u32, bytes: &[u8]) -> Result<(u32, &[u8]), Stop>
     requires { more ≤ 3 }

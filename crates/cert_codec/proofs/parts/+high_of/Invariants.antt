@@ -1,4 +1,3 @@
-use Rattle.std.proofs.Common.{ℕ}
 use Rattle.cert_codec.proofs.parts.+high_of.Given as goal
 
 abbrev pub decreases-high_of : goal.decreases-high_of

@@ -1,4 +1,3 @@
-use Rattle.std.proofs.Common.{ℕ}
 use Rattle.cert_codec.proofs.parts.+proof_of.Given as goal
 
 abbrev pub decreases-proof_of : goal.decreases-proof_of

@@ -1,4 +1,4 @@
-use Rattle.std.proofs.Common.{◌≡◌, ◌+◌, ◌-◌, length, subst, arith}
+use Rattle.std.proofs.Common.{subst, arith}
 use Rattle.cert_codec.specs.Reading.{Fails, whole_of}
 use Rattle.cert_codec.proofs.Whole.{is_spelled, no_spelling, is_malformed_at, left_within}
 use Rattle.cert_codec.proofs.reading.decode.Goals as goal
