@@ -15,7 +15,7 @@ use Rattle.type_checker.specs.Walk.{Walk, found_at, found_under, walked, Gives}
 
 -- a walk does not both give a formula and end at a place
 apart : (r : FormulaTree × ℕ) (place : ℕ) → ◌≡◌ {A = Walk} (Ok r) (Err place) → ⊥
-apart r place e = let k : ◌≡◌ {A = ℕ} 0 1 = cc in absurd (cc)
+apart r place e = absurd (cc)
 
 found_ok : (t : Bool) (a : FormulaTree) (n : ℕ) (b : FormulaTree) (m : ℕ) → fits a ≡ t → ◌≡◌ {A = Walk} (if t then Ok (a, n + 1) else Err n) (Ok (b, m)) → (fits b ≡ true) × (a ≡ b) × (m ≡ n + 1)
 found_ok true a n b m h e =

@@ -57,6 +57,7 @@ undetermined (suc n) = None ∷ undetermined n
 abbrev pub subproofs : List Decl → List Sort → List FormulaTree → ProofTree → List (Option Subproof)
 subproofs names variables hypotheses (lambda a p) =
     (if is_assumable names variables a then subproofs names variables (a ∷ hypotheses) p else undetermined (proof_nodes p)) ++ determined variables hypotheses (lambda a p) ∷ []
+-- a hypothesis has no other; the other rules are not built yet
 subproofs names variables hypotheses p = determined variables hypotheses p ∷ []
 
 -- a subproof with determined hypotheses has no formula

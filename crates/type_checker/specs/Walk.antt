@@ -31,6 +31,7 @@ abbrev pub walked : List Decl → List Sort → List FormulaTree → ProofTree �
 walked names variables hypotheses (hypothesis k) n = found_at (slice_get hypotheses k) n
 walked names variables hypotheses (lambda a p) n =
     if is_assumable names variables a then found_under a (walked names variables (a ∷ hypotheses) p n) else Err (n + proof_nodes p)
+-- the other rules are not built yet
 walked names variables hypotheses p n = Err n
 
 -- the size and depth that go with a formula are its own, and it fits
