@@ -81,9 +81,12 @@ one_formula names variables hypotheses p a b h g = absurd h
 
 -- whatever certificate the bytes spell, its obligation has not its term
 pub unproved_whichever : (bytes : List ℕ) (c : CertificateTree) → Spells bytes c → (Proves c.names c.pre c.node c.post → ⊥) → Complains bytes unproved
-unproved_whichever bytes c h refuted = ((c, h), λ d g proved.
-    let same : d ≡ c = one_spelling d c g.built g.shallow h.built h.shallow (g.spelled ∙ sym h.spelled) in
-    refuted (subst (λ (e : CertificateTree). Proves e.names e.pre e.node e.post) same proved))
+unproved_whichever bytes c h refuted = (
+  (c, h),
+  λ d g proved.
+      let same : d ≡ c = one_spelling d c g.built g.shallow h.built h.shallow (g.spelled ∙ sym h.spelled) in
+      refuted (subst (λ (e : CertificateTree). Proves e.names e.pre e.node e.post) same proved),
+)
 
 -- a file of which a complaint holds is not valid
 pub complaint_holds : (bytes : List ℕ) (complaint : Complaint) → Complains bytes complaint → Valid bytes → ⊥

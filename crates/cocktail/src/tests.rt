@@ -1,9 +1,11 @@
-//! The worked rows of the commands, over the outside in memory.
+//! The worked rows of the commands over the outside in memory, and one test of each real adapter.
 
+use crate::adapters::{FileOrigin, StdSink};
 use crate::status::Status;
 use crate::top::cocktail;
-use ck_base::{List, MemOrigin, MemSink, MemTarget, NamedBytes, NoMemory, Text};
+use ck_base::{List, MemOrigin, MemSink, MemTarget, NamedBytes, NoMemory, Origin, Sink, Text};
 use std::alloc::Global;
+use std::fs;
 use std::test::Fail;
 
 // `{ true } skip { true }`
@@ -34,50 +36,166 @@ fn list<T: Copy + Drop>(alloc: Global, items: &[T]) -> Result<List<T>, NoMemory>
     Ok(list)
 }
 
-fn words(alloc: Global, words: &[&str]) -> Result<Vec<String>, NoMemory> {
-    let mut all = Vec::new(alloc);
-    for word in words {
-        all.push(String::from_str(alloc, word)?)?;
-    }
-    Ok(all)
+/// The calls that fail on the origin and on the sink, numbered from 0.
+#[derive(Drop)]
+struct Faults<'a> {
+    reads: &'a [u64],
+    puts: &'a [u64],
 }
 
-/// Runs `words` over an origin that has the one file `c` with these bytes, in pieces of ten, and a sink in
-/// pieces of five. The calls in `reads` fail on the origin, and those in `puts` on the sink. The answer is
-/// the status and what was printed.
+const NO_FAULTS: Faults<'static> = Faults {
+    reads: &[],
+    puts: &[],
+};
+
+/// Runs these words over an origin that has the one file `c` with these bytes and gives at most 4,096 of
+/// them at a time, and a sink that takes five at a time. Answers the status, and the sink.
 fn ran(
     alloc: Global,
-    line: &[&str],
+    words: &[&str],
     bytes: &[u8],
-    reads: &[u64],
-    puts: &[u64],
+    faults: &Faults,
 ) -> Result<(Status, MemSink), NoMemory> {
-    let words = words(alloc, line)?;
+    let mut line = Vec::new(alloc);
+    for word in words {
+        line.push(String::from_str(alloc, word)?)?;
+    }
     let mut files = List::new(alloc);
     files.push(NamedBytes {
         name: text(alloc, b"c")?,
         bytes: list(alloc, bytes)?,
     })?;
-    let mut input = MemOrigin::new(files, 10, list(alloc, reads)?);
+    let mut input = MemOrigin::new(files, 4_096, list(alloc, faults.reads)?);
     let mut target = MemTarget::new(alloc, Text::new(alloc), 1, List::new(alloc));
-    let mut out = MemSink::new(alloc, 5, list(alloc, puts)?);
-    let status = cocktail(alloc, words.as_slice(), &mut input, &mut target, &mut out);
+    let mut out = MemSink::new(alloc, 5, list(alloc, faults.puts)?);
+    let status = cocktail(alloc, line.as_slice(), &mut input, &mut target, &mut out);
     Ok((status, out))
+}
+
+/// A certificate whose proof has that many lambdas over `bottom`.
+fn nested(alloc: Global, lambdas: u32) -> Result<Vec<u8>, NoMemory> {
+    let mut bytes = Vec::from_slice(alloc, &SKIP[..10])?;
+    for _level in 0..lambdas {
+        bytes.extend_from_slice(&[0x41, 0x30])?;
+    }
+    bytes.extend_from_slice(&[0x40, 0x00])?;
+    Ok(bytes)
 }
 
 #[test]
 fn rows(rt: HostRuntime) -> Result<(), Fail> {
-    let cases: [(&[u8], Status, &[u8]); 5] = [
-        (&SKIP, Status::Done, b"valid\n"),
-        (&[], Status::Refused, b"refused Malformed\n"),
-        (&SKIP[..14], Status::Refused, b"refused Malformed\n"),
-        (&NO_HYPOTHESIS, Status::Refused, b"refused Unproved\n"),
-        (&OTHER_FORMULA, Status::Refused, b"refused Unproved\n"),
+    let deepest = nested(rt.alloc(), 2_047)?;
+    let too_deep = nested(rt.alloc(), 2_048)?;
+    let cases: [(&[u8], Status, &str); 7] = [
+        (&SKIP, Status::Done, "valid\n"),
+        (&[], Status::Refused, "refused Malformed\n"),
+        (&SKIP[..14], Status::Refused, "refused Malformed\n"),
+        (&NO_HYPOTHESIS, Status::Refused, "refused Unproved\n"),
+        (&OTHER_FORMULA, Status::Refused, "refused Unproved\n"),
+        (deepest.as_slice(), Status::Refused, "refused Unproved\n"),
+        (too_deep.as_slice(), Status::Refused, "refused Malformed\n"),
     ];
     for (bytes, wanted, printed) in &cases {
-        let (status, out) = ran(rt.alloc(), &["check", "c"], bytes, &[], &[])?;
+        let (status, out) = ran(rt.alloc(), &["check", "c"], bytes, &NO_FAULTS)?;
         assert_eq!(rt; status, *wanted);
-        assert_eq!(rt; out.bytes(), *printed);
+        assert_eq!(rt; out.bytes(), printed.as_bytes());
     }
     Ok(())
+}
+
+#[test]
+fn words(rt: HostRuntime) -> Result<(), Fail> {
+    let lines: [&[&str]; 6] = [
+        &[],
+        &["check"],
+        &["check", ""],
+        &["check", "-c"],
+        &["check", "c", "c"],
+        &["run", "c"],
+    ];
+    for line in &lines {
+        let (status, out) = ran(rt.alloc(), line, &SKIP, &NO_FAULTS)?;
+        assert_eq!(rt; status, Status::Words);
+        assert_eq!(rt; out.bytes(), b"refused words\n".as_slice());
+    }
+    let (status, out) = ran(rt.alloc(), &["check", "d"], &SKIP, &NO_FAULTS)?;
+    assert_eq!(rt; status, Status::ReadFault);
+    assert_eq!(rt; out.bytes(), b"".as_slice());
+    Ok(())
+}
+
+/// Each read in turn fails: opening, the one piece, and the end.
+#[test]
+fn reads_fail(rt: HostRuntime) -> Result<(), Fail> {
+    for call in 0..4u64 {
+        let faults = Faults {
+            reads: &[call],
+            puts: &[],
+        };
+        let (status, out) = ran(rt.alloc(), &["check", "c"], &SKIP, &faults)?;
+        let (wanted, printed) = if call < 3 {
+            (Status::ReadFault, "")
+        } else {
+            (Status::Done, "valid\n")
+        };
+        assert_eq!(rt; status, wanted);
+        assert_eq!(rt; out.bytes(), printed.as_bytes());
+    }
+    Ok(())
+}
+
+/// Each put in turn fails. What was put before is a front of the line, and a refusal stays one.
+#[test]
+fn puts_fail(rt: HostRuntime) -> Result<(), Fail> {
+    let cases: [(&[u8], u64, Status, &str); 7] = [
+        (&SKIP, 0, Status::OutFault, ""),
+        (&SKIP, 1, Status::OutFault, "valid"),
+        (&SKIP, 2, Status::Done, "valid\n"),
+        (&[], 0, Status::Refused, ""),
+        (&[], 1, Status::Refused, "refus"),
+        (&[], 3, Status::Refused, "refused Malform"),
+        (&[], 4, Status::Refused, "refused Malformed\n"),
+    ];
+    for (bytes, call, wanted, printed) in &cases {
+        let faults = Faults {
+            reads: &[],
+            puts: &[*call],
+        };
+        let (status, out) = ran(rt.alloc(), &["check", "c"], bytes, &faults)?;
+        assert_eq!(rt; status, *wanted);
+        assert_eq!(rt; out.bytes(), printed.as_bytes());
+    }
+    Ok(())
+}
+
+/// At the limit the bytes are judged, and with one more they are too long.
+#[test]
+fn the_limit(rt: HostRuntime) -> Result<(), Fail> {
+    let long = vec![in rt.alloc(); 0u8; 4_194_305]?;
+    let (status, out) = ran(rt.alloc(), &["check", "c"], &long[..4_194_304], &NO_FAULTS)?;
+    assert_eq!(rt; status, Status::Refused);
+    assert_eq!(rt; out.bytes(), b"refused Malformed\n".as_slice());
+    let (status, out) = ran(rt.alloc(), &["check", "c"], &long, &NO_FAULTS)?;
+    assert_eq!(rt; status, Status::TooLong);
+    assert_eq!(rt; out.bytes(), b"refused TooLong\n".as_slice());
+    Ok(())
+}
+
+#[test]
+fn a_real_file(rt: HostRuntime) -> Result<(), Fail> {
+    fs::write(&rt, "a_real_file.ckt", &SKIP)?;
+    let mut origin = FileOrigin::new(&rt);
+    assert!(rt; origin.begin("no such file").is_err());
+    assert!(rt; origin.begin("a_real_file.ckt").is_ok());
+    let mut buf = [0; 16];
+    assert!(rt; origin.read(&mut buf) == Ok(15));
+    assert_eq!(rt; &buf[..15], SKIP.as_slice());
+    assert!(rt; origin.read(&mut buf) == Ok(0));
+    fs::remove_file(&rt, "a_real_file.ckt")?;
+    Ok(())
+}
+
+#[test]
+fn standard_output(rt: HostRuntime) {
+    assert!(rt; StdSink::new(&rt).put(b"valid\n") == Ok(6));
 }
