@@ -172,7 +172,8 @@ fn puts_fail(rt: HostRuntime) -> Result<(), Fail> {
 #[test]
 fn the_limit(rt: HostRuntime) -> Result<(), Fail> {
     let long = vec![in rt.alloc(); 0u8; 4_194_305]?;
-    let (status, out) = ran(rt.alloc(), &["check", "c"], &long[..4_194_304], &NO_FAULTS)?;
+    let whole = long.get(..4_194_304).ok_or("room for the limit")?;
+    let (status, out) = ran(rt.alloc(), &["check", "c"], whole, &NO_FAULTS)?;
     assert_eq!(rt; status, Status::Refused);
     assert_eq!(rt; out.bytes(), b"refused Malformed\n".as_slice());
     let (status, out) = ran(rt.alloc(), &["check", "c"], &long, &NO_FAULTS)?;
