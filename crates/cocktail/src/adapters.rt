@@ -1,12 +1,22 @@
 //! The real outside: files and standard output. They keep the counts of their traits, and tell nothing of
 //! names or content.
 
-ghost use Rattle.std.specs.Prelude.{None, is_some};
+ghost use Rattle.std.specs.Prelude.{◌≤◌, None, is_some};
+ghost use Rattle.ck_base.specs.Outside.{Rose};
 
 use ck_base::{Failed, Origin, Sink};
 use std::fs::File;
 use std::io::Read;
 use std::rt::Files;
+
+// A call failed: the count of faults goes up by one, or stays at its last value.
+fn fault(faults: &mut u64) -> Failed
+    ensures later { faults.old ≤ faults.new }
+    ensures rose { Rose faults.old faults.new }
+{
+    *faults = faults.saturating_add(1);
+    Failed
+}
 
 /// Files of the file system, read one at a time.
 #[derive(Drop)]
@@ -43,10 +53,7 @@ impl Origin for FileOrigin<'_> {
                 self.file = Some(file);
                 Ok(())
             }
-            Err(_) => {
-                self.faults = self.faults.saturating_add(1);
-                Err(Failed)
-            }
+            Err(_) => Err(fault(&mut self.faults)),
         }
     }
 
@@ -56,10 +63,7 @@ impl Origin for FileOrigin<'_> {
         };
         match file.read(buf) {
             Ok(count) => Ok(count),
-            Err(_) => {
-                self.faults = self.faults.saturating_add(1);
-                Err(Failed)
-            }
+            Err(_) => Err(fault(&mut self.faults)),
         }
     }
 }
@@ -86,10 +90,7 @@ impl Sink for StdSink<'_> {
     fn put(&mut self, bytes: &[u8]) -> Result<usize, Failed> {
         match self.rt.write_some(bytes) {
             Ok(taken) if taken > 0 => Ok(taken),
-            _ => {
-                self.faults = self.faults.saturating_add(1);
-                Err(Failed)
-            }
+            _ => Err(fault(&mut self.faults)),
         }
     }
 }
