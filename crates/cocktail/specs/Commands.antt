@@ -5,7 +5,7 @@ use Rattle.std.specs.Str.{bytes_eq}
 use Rattle.std.specs.Io.KnownBytes.{Appends}
 use Rattle.ck_base.specs.declared.outside.NamedBytes.{NamedBytes}
 use Rattle.ck_base.specs.Outside.{Rose, Holds, IsMissing}
-use Rattle.cocktail.specs.Valid.{Complaint, malformed, unproved}
+use Rattle.cocktail.specs.Valid.{Complaint, malformed, limits, unproved}
 
 -- a word that can name a file: it is not empty and does not begin with `-`
 abbrev pub is_file_word : List ℕ → Bool
@@ -49,6 +49,7 @@ line text = text ++ 10 ∷ []
 -- the line that says why a file is not valid
 abbrev pub complaint_line : Complaint → List ℕ
 complaint_line malformed = line (codes "refused Malformed")
+complaint_line limits = line (codes "refused Limits")
 complaint_line unproved = line (codes "refused Unproved")
 
 -- The sink gained a front of the text, and the whole of it unless its count of faults rose.

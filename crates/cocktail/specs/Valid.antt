@@ -50,13 +50,16 @@ HasPromise bytes = (c : CertificateTree) → IsFileOf c bytes → KeepsPromise c
 -- why a file is not valid: the first condition that fails
 pub data Complaint : Type 0 where
   malformed : Complaint
+  limits : Complaint
   unproved : Complaint
 
--- the bytes are no spelling; or they are one, and an obligation has not its term
+-- The bytes are no spelling; or they are one, and a part or the whole is too large; or they are small, and
+-- an obligation has not its term.
 abbrev pub Complains : List ℕ → Complaint → Type 0
 Complains bytes malformed = IsSpelling bytes → ⊥
+Complains bytes limits = IsSpelling bytes × ((c : CertificateTree) → Spells bytes c → IsSmall c → ⊥)
 Complains bytes unproved =
-    IsSpelling bytes × ((c : CertificateTree) → Spells bytes c → Proves c.names c.pre c.node c.post → ⊥)
+    IsSpelling bytes × ((c : CertificateTree) → Spells bytes c → IsSmall c × (Proves c.names c.pre c.node c.post → ⊥))
 
 -- what holds of the place, where the answer is that the bytes are malformed
 abbrev pub IfMalformed : {A : Type 0} → Result A CheckFault → (ℕ → Type 0) → Type 0

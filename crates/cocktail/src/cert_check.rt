@@ -1,6 +1,6 @@
 //! Whether bytes are a valid certificate.
 
-ghost use Rattle.std.specs.Prelude.{◌≡◌, ◌<◌, ◌≤◌, ◌↔◌, [], length, IfOk, IsTrue, IsErrOf};
+ghost use Rattle.std.specs.Prelude.{◌≡◌, ◌+◌, ◌^◌, ◌<◌, ◌≤◌, ◌↔◌, [], length, IfOk, IsTrue, IsErrOf};
 ghost use Rattle.std.specs.Bool.{MatchBool};
 ghost use Rattle.formulas.specs.Tree.{formula_tree, joined, implies};
 ghost use Rattle.proof_terms.specs.Tree.{proof_tree};
@@ -9,11 +9,12 @@ ghost use Rattle.cert_codec.specs.Tree.{certificate_tree, checked_tree, node_tre
 ghost use Rattle.cert_codec.specs.Spelling.{IsBuiltProof, IsBuiltNode, IsShallowNode};
 ghost use Rattle.proof_terms.specs.Size.{proof_depth};
 ghost use Rattle.cocktail.specs.Proves.{Proves};
-ghost use Rattle.cocktail.specs.Valid.{IsFileOf, HasPromise, Complains, IfMalformed, malformed, unproved};
+ghost use Rattle.cocktail.specs.Valid.{IsFileOf, IsSmall, node_size as node_size_of, HasPromise, Complains, IfMalformed, malformed, limits, unproved};
+ghost use Rattle.formulas.specs.Sorts.{size as size_of};
 ghost use Rattle.cert_codec.specs.Front.{IsMalformedAt};
 
 use cert_codec::{Certificate, DecodeFault, Node, RawCertificate, decode};
-use ck_base::limits::CERTIFICATE_BYTES;
+use ck_base::limits::{CERTIFICATE_BYTES, CERTIFICATE_NODES, FORMULA_NODES};
 use ck_base::{Decls, List, NoMemory};
 use formulas::{Context, Formula, same};
 use proof_terms::Proof;
@@ -28,6 +29,8 @@ pub enum CheckFault {
     /// The bytes are no spelling of a certificate. `at` is the offset, in bytes from 0, of the first byte
     /// with which none goes on; it is the number of bytes where more would be needed.
     Malformed { at: u32 },
+    /// A part has more than 16,384 nodes, or the whole more than 200,000.
+    Limits,
     /// An obligation's proof has not its formula.
     Unproved,
     /// A request for memory was refused.
@@ -51,6 +54,7 @@ pub fn check(alloc: Global, bytes: &[u8]) -> Result<Certificate, CheckFault>
     ensures promise { IfOk result (λ _. HasPromise bytes.now) }
     ensures too_long { IsErrOf result CheckFault.TooLong ↔ (4194304 < length bytes.now) }
     ensures malformed { IfMalformed result (λ at. Complains bytes.now malformed × IsMalformedAt bytes.now at) }
+    ensures limits { IsErrOf result CheckFault.Limits → Complains bytes.now limits }
     ensures unproved { IsErrOf result CheckFault.Unproved → Complains bytes.now unproved }
 {
     if bytes.len() > CERTIFICATE_BYTES {
@@ -62,6 +66,9 @@ pub fn check(alloc: Global, bytes: &[u8]) -> Result<Certificate, CheckFault>
         Err(DecodeFault::NoMemory) => return Err(CheckFault::NoMemory),
     };
     let certificate = named(alloc, raw);
+    if !is_small(&certificate) {
+        return Err(CheckFault::Limits);
+    }
     if is_proved(alloc, &certificate)? {
         Ok(certificate)
     } else {
@@ -85,6 +92,28 @@ fn named(alloc: Global, raw: RawCertificate) -> Certificate
         pre,
         post,
         node,
+    }
+}
+
+// Whether no part of the certificate has too many nodes, nor the whole.
+fn is_small(c: &Certificate) -> bool
+    requires { size_of (formula_tree c.now.pre) + size_of (formula_tree c.now.post) + node_size_of (node_tree c.now.node) < 2 ^ 32 }
+    ensures { IsTrue result ↔ IsSmall (checked_tree c.now) }
+{
+    let pre = formulas::size(&c.pre);
+    let post = formulas::size(&c.post);
+    pre <= FORMULA_NODES
+        && post <= FORMULA_NODES
+        && pre + post + node_size(&c.node) <= CERTIFICATE_NODES
+}
+
+// The number of program, proof, formula and term nodes.
+fn node_size(node: &Node) -> u32
+    requires { node_size_of (node_tree node.now) < 2 ^ 32 }
+    ensures { result ≡ node_size_of (node_tree node.now) }
+{
+    match node {
+        Node::Skip(p) => 1 + proof_terms::size(p),
     }
 }
 

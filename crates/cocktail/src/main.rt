@@ -14,6 +14,7 @@ mod reading;
 mod status;
 #[cfg(test)]
 mod tests;
+mod texts;
 mod top;
 mod words;
 

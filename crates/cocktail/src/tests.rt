@@ -82,12 +82,44 @@ fn nested(alloc: Global, lambdas: u32) -> Result<Vec<u8>, NoMemory> {
     Ok(bytes)
 }
 
+// What is printed of a valid file of `{ true } skip { true }`.
+const TRIPLE: &str = "valid\n{ true }\nskip\n{ true }\n";
+
+// The proof is the identity on `true` applied to itself.
+const APPLICATION: [u8; 21] = [
+    0x43, 0x4B, 0x54, 0x31, 0x00, 0x31, 0x18, 0x31, 0x18, 0x60, 0x41, 0x31, 0x18, 0x42, 0x41, 0x31,
+    0x18, 0x40, 0x00, 0x40, 0x00,
+];
+
+/// The bytes of a formula: a tree of implications with that many levels above its leaves, all `bottom`.
+fn add_tree(bytes: &mut Vec<u8>, levels: u32) -> Result<(), NoMemory> {
+    if levels == 0 {
+        bytes.push(0x30)?;
+        return Ok(());
+    }
+    bytes.push(0x32)?;
+    add_tree(bytes, levels - 1)?;
+    add_tree(bytes, levels - 1)
+}
+
+/// `{ true } skip { Q }` where Q is an implication of 8,193 leaves, that is of 16,385 nodes.
+fn too_large(alloc: Global) -> Result<Vec<u8>, NoMemory> {
+    let mut bytes = Vec::from_slice(alloc, &SKIP[..7])?;
+    bytes.extend_from_slice(&[0x32, 0x30])?;
+    add_tree(&mut bytes, 13)?;
+    bytes.extend_from_slice(&SKIP[9..])?;
+    Ok(bytes)
+}
+
 #[test]
 fn rows(rt: HostRuntime) -> Result<(), Fail> {
     let deepest = nested(rt.alloc(), 2_047)?;
     let too_deep = nested(rt.alloc(), 2_048)?;
-    let cases: [(&[u8], Status, &str); 7] = [
-        (&SKIP, Status::Done, "valid\n"),
+    let too_large = too_large(rt.alloc())?;
+    let cases: [(&[u8], Status, &str); 9] = [
+        (&SKIP, Status::Done, TRIPLE),
+        (&APPLICATION, Status::Done, TRIPLE),
+        (too_large.as_slice(), Status::Refused, "refused Limits\n"),
         (&[], Status::Refused, "refused Malformed\n"),
         (&SKIP[..14], Status::Refused, "refused Malformed\n"),
         (&NO_HYPOTHESIS, Status::Refused, "refused Unproved\n"),
@@ -136,7 +168,7 @@ fn reads_fail(rt: HostRuntime) -> Result<(), Fail> {
         let (wanted, printed) = if call < 3 {
             (Status::ReadFault, "")
         } else {
-            (Status::Done, "valid\n")
+            (Status::Done, TRIPLE)
         };
         assert_eq!(rt; status, wanted);
         assert_eq!(rt; out.bytes(), printed.as_bytes());
@@ -147,10 +179,11 @@ fn reads_fail(rt: HostRuntime) -> Result<(), Fail> {
 /// Each put in turn fails. What was put before is a front of the line, and a refusal stays one.
 #[test]
 fn puts_fail(rt: HostRuntime) -> Result<(), Fail> {
-    let cases: [(&[u8], u64, Status, &str); 7] = [
+    let cases: [(&[u8], u64, Status, &str); 8] = [
         (&SKIP, 0, Status::OutFault, ""),
         (&SKIP, 1, Status::OutFault, "valid"),
-        (&SKIP, 2, Status::Done, "valid\n"),
+        (&SKIP, 5, Status::OutFault, "valid\n{ true }\nskip\n{ tru"),
+        (&SKIP, 6, Status::Done, TRIPLE),
         (&[], 0, Status::Refused, ""),
         (&[], 1, Status::Refused, "refus"),
         (&[], 3, Status::Refused, "refused Malform"),

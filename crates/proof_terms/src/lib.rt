@@ -1,9 +1,14 @@
 //! Proof terms: formulas are types, an implication is a product and checking a proof is typing.
 //!
-//! It stands on `formulas`. Its definition is the tree of a proof (`specs/Tree.antt`), with its depth and
-//! size.
+//! It stands on `formulas`. Its definitions are the tree of a proof (`specs/Tree.antt`), and its depth and
+//! size (`specs/Size.antt`).
 #![tactic(auto)]
 
+pub mod measures;
 pub mod proof;
 
+pub use measures::size;
 pub use proof::Proof;
+
+#[cfg(test)]
+mod tests;
