@@ -6,12 +6,14 @@ use Rattle.ck_base.specs.declared.decl.Sort.{Sort}
 use Rattle.formulas.specs.declared.formula.Formula.{Formula}
 use Rattle.formulas.specs.Tree.{FormulaTree, joined, implies}
 use Rattle.formulas.specs.Sorts.{size, depth, fits, well_sorted}
-use Rattle.proof_terms.specs.Tree.{ProofTree, hypothesis, lambda}
+use Rattle.proof_terms.specs.Tree.{ProofTree, hypothesis, lambda, application}
 use Rattle.type_checker.specs.declared.untyped.Untyped.{Untyped}
 use Rattle.type_checker.specs.declared.untyped.Untyped.TheVariants.{At, NoMemory}
 use Rattle.type_checker.specs.Typing.{Has}
 use Rattle.type_checker.specs.Place.{proof_nodes, Subproof, is_assumable, determined, undetermined, subproofs, IsUntyped, IsPassed, IsFirstUntyped, IfAt}
-use Rattle.type_checker.specs.Walk.{Walk, found_at, found_under, walked, Gives}
+use Rattle.type_checker.specs.Walk.{Walk, found_at, found_under, right_of, found_right, found_applied, found_both, walked, Gives}
+use Rattle.type_checker.proofs.Same.{formula_same}
+use Rattle.type_checker.proofs.Sides.{right_is, fits_left, fits_right}
 
 -- a walk does not both give a formula and end at a place
 apart : (r : FormulaTree × ℕ) (place : ℕ) → ◌≡◌ {A = Walk} (Ok r) (Err place) → ⊥
@@ -37,6 +39,30 @@ if_ok : (t : Bool) (w : Walk) (place : ℕ) (r : FormulaTree × ℕ) → (if t t
 if_ok true w place r e = (refl, e)
 if_ok false w place r e = absurd (cc)
 
+found_right_ok : (o : Option FormulaTree) (n : ℕ) (d : FormulaTree) (m : ℕ) → found_right o n ≡ Ok (d, m) → (o ≡ Some d) × (m ≡ n + 1)
+found_right_ok None n d m e = absurd (cc)
+found_right_ok (Some b) n d m e =
+    let k : ◌≡◌ {A = FormulaTree × ℕ} (b, n + 1) (d, m) = cc in
+    (ap (λ (x : FormulaTree × ℕ). Some x.0) k, sym (ap (λ (x : FormulaTree × ℕ). x.1) k))
+
+applied_ok : (f : FormulaTree) (w : Walk) (d : FormulaTree) (m : ℕ) → found_applied f w ≡ Ok (d, m)
+    → (c : FormulaTree) × (n : ℕ) × (w ≡ Ok (c, n)) × (f ≡ joined implies c d) × (m ≡ n + 1)
+applied_ok f (Ok r) d m e = let k = found_right_ok (right_of f r.0) r.1 d m e in (r.0, r.1, refl, right_is f r.0 d k.0, k.1)
+applied_ok f (Err place) d m e = absurd (cc)
+
+both_ok : (u w : Walk) (d : FormulaTree) (m : ℕ) → found_both u w ≡ Ok (d, m)
+    → (f : FormulaTree) × (k : ℕ) × (u ≡ Ok (f, k)) × (found_applied f w ≡ Ok (d, m))
+both_ok (Ok r) w d m e = (r.0, r.1, refl, e)
+both_ok (Err place) w d m e = absurd (cc)
+
+-- the formula that a proof has fits
+fitting : (names : List Decl) (variables : List Sort) (hypotheses : List FormulaTree) (p : ProofTree) (a : FormulaTree)
+    → Has names variables hypotheses p a → fits a ≡ true
+fitting names variables hypotheses (hypothesis k) a h = h.0
+fitting names variables hypotheses (lambda a p) c h = h.0
+fitting names variables hypotheses (application p q) b h = h.0
+fitting names variables hypotheses p a h = absurd h
+
 -- what the walk gives is the formula of the proof
 pub has : (names : List Decl) (variables : List Sort) (hypotheses : List FormulaTree) (p : ProofTree) (n : ℕ) (a : FormulaTree) (m : ℕ)
     → walked names variables hypotheses p n ≡ Ok (a, m) → Has names variables hypotheses p a × (m ≡ n + proof_nodes p)
@@ -51,18 +77,17 @@ has names variables hypotheses (lambda a p) n c m e =
     let next : m ≡ f.1 + 1 = f.5 in
     let end : m ≡ n + (1 + proof_nodes p) = omega arith in
     ((f.3, good.1, f.0, i.0, f.4), end)
+has names variables hypotheses (application p q) n d m e =
+    let f = both_ok (walked names variables hypotheses p n) (walked names variables hypotheses q (n + proof_nodes p)) d m e in
+    let g = applied_ok f.0 (walked names variables hypotheses q (n + proof_nodes p)) d m f.3 in
+    let i = has names variables hypotheses p n f.0 f.1 f.2 in
+    let j = has names variables hypotheses q (n + proof_nodes p) g.0 g.1 g.2 in
+    let left : Has names variables hypotheses p (joined implies g.0 d) = subst (λ x. Has names variables hypotheses p x) g.3 i.0 in
+    let at : g.1 ≡ n + proof_nodes p + proof_nodes q = j.1 in
+    let next : m ≡ g.1 + 1 = g.4 in
+    let end : m ≡ n + (1 + proof_nodes p + proof_nodes q) = omega arith in
+    ((fits_right g.0 d (fitting names variables hypotheses p (joined implies g.0 d) left), g.0, left, j.0), end)
 has names variables hypotheses p n a m e = absurd (cc)
-
--- the left part of a formula that fits, fits
-fits_left : (a b : FormulaTree) → fits (joined implies a b) ≡ true → fits a ≡ true
-unfolding fits
-fits_left a b h =
-    let parts = and_parts (nat_le (size (joined implies a b)) 16384) (nat_le (depth (joined implies a b)) 256) h in
-    let few : 1 + size a + size b ≤ 16384 = leb-true _ _ parts.0 in
-    let low : 1 + max (depth a) (depth b) ≤ 256 = leb-true _ _ parts.1 in
-    let few_left : size a ≤ 16384 = omega arith in
-    let low_left : depth a ≤ 256 = omega arith in
-    and_from _ _ (le-leb _ _ few_left) (le-leb _ _ low_left)
 
 -- the walk gives the formula that a proof has
 pub finds : (names : List Decl) (variables : List Sort) (hypotheses : List FormulaTree) (p : ProofTree) (a : FormulaTree) (n : ℕ)
@@ -74,6 +99,11 @@ finds names variables hypotheses (lambda a p) c n h =
     let end : n + proof_nodes p + 1 ≡ n + (1 + proof_nodes p) = omega arith in
     let i = finds names variables (a ∷ hypotheses) p h.2 n h.3 in
     subst (λ x. walked names variables hypotheses (lambda a p) n ≡ Ok (x, n + (1 + proof_nodes p))) (sym h.4) (rw (left, h.1, i, fit) (ap (λ k. Ok (joined implies a h.2, k)) end))
+finds names variables hypotheses (application p q) b n h =
+    let i = finds names variables hypotheses p (joined implies h.1 b) n h.2 in
+    let j = finds names variables hypotheses q h.1 (n + proof_nodes p) h.3 in
+    let end : n + proof_nodes p + proof_nodes q + 1 ≡ n + (1 + proof_nodes p + proof_nodes q) = omega arith in
+    rw (i, j, formula_same h.1) (ap (λ k. Ok (b, k)) end)
 finds names variables hypotheses p a n h = absurd h
 
 -- where the walk ends at a place, the proof has no formula
@@ -102,6 +132,10 @@ length-more : (front : List (Option Subproof)) (s : Option Subproof) → length 
 length-more [] s = refl
 length-more (r ∷ front) s = let i : length (front ++ s ∷ []) ≡ 1 + length front = length-more front s in omega arith
 
+length-both : (front back : List (Option Subproof)) → length (front ++ back) ≡ length front + length back
+length-both [] back = omega arith
+length-both (s ∷ front) back = let i : length (front ++ back) ≡ length front + length back = length-both front back in omega arith
+
 at_end : (names : List Decl) (front : List (Option Subproof)) (s : Option Subproof) → AllPassed names front → IsUntyped names s → IsFirstUntyped names (front ++ s ∷ []) (length front)
 at_end names [] s f u = u
 at_end names (r ∷ front) s f u = (f.0, at_end names front s f.1 u)
@@ -110,6 +144,13 @@ in_front : (names : List Decl) (front back : List (Option Subproof)) (place : �
 in_front names [] back place h = absurd h
 in_front names (s ∷ front) back zero h = h
 in_front names (s ∷ front) back (suc place) h = (h.0, in_front names front back place h.1)
+
+-- past those that are passed
+further : (names : List Decl) (front back : List (Option Subproof)) (place : ℕ) → AllPassed names front → IsFirstUntyped names back place → IsFirstUntyped names (front ++ back) (length front + place)
+further names [] back place f h = let e : place ≡ 0 + place = omega arith in subst (λ k. IsFirstUntyped names back k) e h
+further names (s ∷ front) back place f h =
+    let e : suc (length front + place) ≡ suc (length front) + place = omega arith in
+    subst (λ k. IsFirstUntyped names (s ∷ (front ++ back)) k) e (f.0, further names front back place f.1 h)
 
 -- a lambda that has a formula has a formula that may be a hypothesis
 assumed : (names : List Decl) (variables : List Sort) (hypotheses : List FormulaTree) (a : FormulaTree) (p : ProofTree) (c : FormulaTree)
@@ -122,6 +163,9 @@ passed : (names : List Decl) (variables : List Sort) (hypotheses : List FormulaT
 passed names variables hypotheses (hypothesis k) a h = ((a, h), tt)
 passed names variables hypotheses (lambda a p) c h =
     rw (assumed names variables hypotheses a p c h) (passed-append names (subproofs names variables (a ∷ hypotheses) p) (determined variables hypotheses (lambda a p) ∷ []) (passed names variables (a ∷ hypotheses) p h.2 h.3) ((c, h), tt))
+passed names variables hypotheses (application p q) b h =
+    passed-append names (subproofs names variables hypotheses p) _ (passed names variables hypotheses p (joined implies h.1 b) h.2)
+    (passed-append names (subproofs names variables hypotheses q) (determined variables hypotheses (application p q) ∷ []) (passed names variables hypotheses q h.1 h.3) ((b, h), tt))
 passed names variables hypotheses p a h = absurd h
 
 length-subproofs : (names : List Decl) (variables : List Sort) (hypotheses : List FormulaTree) (p : ProofTree) (a : FormulaTree)
@@ -129,6 +173,12 @@ length-subproofs : (names : List Decl) (variables : List Sort) (hypotheses : Lis
 length-subproofs names variables hypotheses (hypothesis k) a h = refl
 length-subproofs names variables hypotheses (lambda a p) c h =
     rw (assumed names variables hypotheses a p c h) (length-more (subproofs names variables (a ∷ hypotheses) p) (determined variables hypotheses (lambda a p)) ∙ ap (λ n. 1 + n) (length-subproofs names variables (a ∷ hypotheses) p h.2 h.3))
+length-subproofs names variables hypotheses (application p q) b h =
+    let left : length (subproofs names variables hypotheses p) ≡ proof_nodes p = length-subproofs names variables hypotheses p (joined implies h.1 b) h.2 in
+    let right : length (subproofs names variables hypotheses q) ≡ proof_nodes q = length-subproofs names variables hypotheses q h.1 h.3 in
+    let more : length (subproofs names variables hypotheses q ++ determined variables hypotheses (application p q) ∷ []) ≡ 1 + length (subproofs names variables hypotheses q) = length-more (subproofs names variables hypotheses q) _ in
+    let whole : length (subproofs names variables hypotheses p ++ (subproofs names variables hypotheses q ++ determined variables hypotheses (application p q) ∷ [])) ≡ length (subproofs names variables hypotheses p) + length (subproofs names variables hypotheses q ++ determined variables hypotheses (application p q) ∷ []) = length-both (subproofs names variables hypotheses p) _ in
+    omega arith
 length-subproofs names variables hypotheses p a h = absurd h
 
 -- the place is so many nodes after the first, and there is the first subproof that has no formula
@@ -171,6 +221,51 @@ module _ (names : List Decl) (variables : List Sort) (hypotheses : List FormulaT
       let front = undetermined (proof_nodes p) in
       (length front, sym at ∙ ap (λ k. n + k) (sym (length-undetermined (proof_nodes p))), at_end names front _ (undetermined_passed names (proof_nodes p)) own)
 
+found_right_err : (o : Option FormulaTree) (n place : ℕ) → found_right o n ≡ Err place → place ≡ n
+found_right_err None n place e = cc
+found_right_err (Some b) n place e = absurd (apart (b, n + 1) place e)
+
+module _ (names : List Decl) (variables : List Sort) (hypotheses : List FormulaTree) (p q : ProofTree) (n place : ℕ)
+    (whole : walked names variables hypotheses (application p q) n ≡ Err place)
+    (left : (k : ℕ) → walked names variables hypotheses p n ≡ Err k → IsPlace names (subproofs names variables hypotheses p) n k)
+    (right : (k : ℕ) → walked names variables hypotheses q (n + proof_nodes p) ≡ Err k → IsPlace names (subproofs names variables hypotheses q) (n + proof_nodes p) k) where
+  abbrev lefts : List (Option Subproof)
+  lefts = subproofs names variables hypotheses p
+
+  abbrev rights : List (Option Subproof)
+  rights = subproofs names variables hypotheses q
+
+  abbrev last : List (Option Subproof)
+  last = determined variables hypotheses (application p q) ∷ []
+
+  -- the fault of the right part or of the application itself, where the left part has a formula
+  right_place : (f : FormulaTree) → Has names variables hypotheses p f → (w : Walk) → walked names variables hypotheses q (n + proof_nodes p) ≡ w → found_applied f w ≡ Err place
+      → IsPlace names (lefts ++ (rights ++ last)) n place
+  right_place f h (Err k) is e =
+      let i = right k is in
+      let same : k ≡ place = cc in
+      let many : length lefts ≡ proof_nodes p = length-subproofs names variables hypotheses p f h in
+      let at : k ≡ n + proof_nodes p + i.0 = i.1 in
+      let sum : place ≡ n + (length lefts + i.0) = omega arith in
+      (length lefts + i.0, sum, further names lefts (rights ++ last) i.0 (passed names variables hypotheses p f h) (in_front names rights last i.0 i.2))
+  right_place f h (Ok r) is e =
+      let g = has names variables hypotheses q (n + proof_nodes p) r.0 r.1 is in
+      let same : place ≡ r.1 = found_right_err (right_of f r.0) r.1 place e in
+      let at : r.1 ≡ n + proof_nodes p + proof_nodes q = g.1 in
+      let many : length lefts ≡ proof_nodes p = length-subproofs names variables hypotheses p f h in
+      let more : length rights ≡ proof_nodes q = length-subproofs names variables hypotheses q r.0 g.0 in
+      let sum : place ≡ n + (length lefts + length rights) = omega arith in
+      (length lefts + length rights, sum, further names lefts (rights ++ last) (length rights) (passed names variables hypotheses p f h) (at_end names rights _ (passed names variables hypotheses q r.0 g.0) (none_at names variables hypotheses (application p q) n place whole)))
+
+  application_place : (u : Walk) → walked names variables hypotheses p n ≡ u → found_both u (walked names variables hypotheses q (n + proof_nodes p)) ≡ Err place
+      → IsPlace names (lefts ++ (rights ++ last)) n place
+  application_place (Err k) is e =
+      let i = left k is in
+      let same : k ≡ place = cc in
+      (i.0, sym same ∙ i.1, in_front names lefts (rights ++ last) i.0 i.2)
+  application_place (Ok r) is e =
+      right_place r.0 (has names variables hypotheses p n r.0 r.1 is).0 (walked names variables hypotheses q (n + proof_nodes p)) refl e
+
 -- where the walk ends is the first subproof that has no formula
 pub place_is : (names : List Decl) (variables : List Sort) (hypotheses : List FormulaTree) (p : ProofTree) (n place : ℕ)
     → walked names variables hypotheses p n ≡ Err place → IsPlace names (subproofs names variables hypotheses p) n place
@@ -180,6 +275,8 @@ place_is names variables hypotheses (hypothesis k) n place e =
     (0, at, none_at names variables hypotheses (hypothesis k) n place e)
 place_is names variables hypotheses (lambda a p) n place e =
     lambda_place names variables hypotheses a p n place e (is_assumable names variables a) e (λ q f. place_is names variables (a ∷ hypotheses) p n q f)
+place_is names variables hypotheses (application p q) n place e =
+    application_place names variables hypotheses p q n place e (λ k f. place_is names variables hypotheses p n k f) (λ k f. place_is names variables hypotheses q (n + proof_nodes p) k f) (walked names variables hypotheses p n) refl e
 place_is names variables hypotheses p n place e =
     let same : n ≡ place = cc in
     let at : place ≡ n + 0 = omega arith in

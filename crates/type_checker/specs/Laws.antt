@@ -1,5 +1,5 @@
 -- What the typing relation is worth.
-use Rattle.std.specs.Prelude.{List}
+use Rattle.std.specs.Prelude.{◌≡◌, List}
 use Rattle.ck_base.specs.declared.decl.Sort.{Sort}
 use Rattle.ck_base.specs.declared.decl.Decl.{Decl}
 use Rattle.sorted_terms.specs.Values.{State, Environment, IsState, AreOf}
@@ -15,3 +15,9 @@ TypingIsSound =
     → Has names variables hypotheses p a
     → (state : State) (environment : Environment) → IsState names state → AreOf variables environment
     → AllTrue hypotheses state environment → Truth a state environment
+
+-- a proof has at most one formula
+abbrev pub OneFormula : Type 0
+OneFormula =
+    (names : List Decl) (variables : List Sort) (hypotheses : List FormulaTree) (p : ProofTree) (a b : FormulaTree)
+    → Has names variables hypotheses p a → Has names variables hypotheses p b → a ≡ b

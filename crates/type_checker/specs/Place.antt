@@ -57,6 +57,9 @@ undetermined (suc n) = None ∷ undetermined n
 abbrev pub subproofs : List Decl → List Sort → List FormulaTree → ProofTree → List (Option Subproof)
 subproofs names variables hypotheses (lambda a p) =
     (if is_assumable names variables a then subproofs names variables (a ∷ hypotheses) p else undetermined (proof_nodes p)) ++ determined variables hypotheses (lambda a p) ∷ []
+-- each part of an application stands under what the whole does
+subproofs names variables hypotheses (application p q) =
+    subproofs names variables hypotheses p ++ (subproofs names variables hypotheses q ++ determined variables hypotheses (application p q) ∷ [])
 -- a hypothesis has no other; the other rules are not built yet
 subproofs names variables hypotheses p = determined variables hypotheses p ∷ []
 

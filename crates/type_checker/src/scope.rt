@@ -10,13 +10,13 @@ use formulas::{Context, Formula};
 
 /// The hypotheses of a context, and on them those of the lambdas around.
 #[derive(Clone, Copy)]
-pub enum Scope<'a> {
-    Outer(&'a Context),
-    Under(&'a Formula, &'a Scope<'a>),
+pub enum Scope<'f, 's> {
+    Outer(&'f Context),
+    Under(&'f Formula, &'s Scope<'f, 's>),
 }
 
 /// The hypothesis of that index, 0 the newest.
-pub fn hypothesis<'a>(scope: &Scope<'a>, index: u32) -> Option<&'a Formula>
+pub fn hypothesis<'f>(scope: &Scope<'f, '_>, index: u32) -> Option<&'f Formula>
     ensures { option_map (λ a. formula_tree a.now) result ≡ slice_get (hypotheses_under scope.now) index }
 {
     match scope {

@@ -9,6 +9,7 @@ ghost use Rattle.type_checker.specs.Place.{proof_nodes, subproofs, IsFirstUntype
 ghost use Rattle.type_checker.specs.Typing.{Has};
 
 use crate::scope::Scope;
+use crate::typed::copied;
 use crate::untyped::Untyped;
 use crate::walk::walk;
 use ck_base::Decls;
@@ -23,11 +24,11 @@ use std::alloc::Global;
 /// context. Proof nodes are numbered from 0 in post-order. A lambda's part is counted and passed over
 /// where the lambda's formula does not fit or is not well-sorted, since its context is not determined.
 /// `Untyped::NoMemory` where a request for memory was refused.
-pub fn type_of(
+pub fn type_of<'f>(
     alloc: Global,
     decls: &Decls,
-    context: &Context,
-    p: &Proof,
+    context: &'f Context,
+    p: &'f Proof,
 ) -> Result<Formula, Untyped>
     requires built { IsBuilt (proof_tree p.now) }
     requires few { proof_nodes (proof_tree p.now) < 2 ^ 31 }
@@ -39,5 +40,5 @@ pub fn type_of(
     let variables = Variables::Outer(&context.sorts);
     let scope = Scope::Outer(&*context);
     let (typed, _) = walk(alloc, decls, &variables, &scope, p, 0)?;
-    Ok(typed.formula)
+    Ok(copied(alloc, &typed.found)?)
 }

@@ -1,35 +1,37 @@
 //! The walk over a proof. It gives each subproof its formula, or finds the first that has none.
 
 ghost use Rattle.std.specs.Prelude.{◌≡◌, ◌+◌, ◌<◌, ◌^◌, true, IfOk, slice_get};
+ghost use Rattle.std.specs.Option.{option_map};
 ghost use Rattle.sorted_terms.specs.Variables.{sorts_in};
 ghost use Rattle.formulas.specs.Tree.{formula_tree, joined, implies};
 ghost use Rattle.formulas.specs.Sorts as sorts;
 ghost use Rattle.proof_terms.specs.Tree.{proof_tree};
 ghost use Rattle.type_checker.specs.Built.{IsBuilt};
+ghost use Rattle.type_checker.specs.Found.{found_tree};
 ghost use Rattle.type_checker.specs.Place as place;
 ghost use Rattle.type_checker.specs.Scope.{hypotheses_under};
-ghost use Rattle.type_checker.specs.Walk.{Gives, IsMeasured, found, found_at, walked};
+ghost use Rattle.type_checker.specs.Walk.{Gives, IsMeasured, found, found_at, found_right, right_of, walked};
 
 use crate::nodes::nodes;
 use crate::scope::{Scope, hypothesis};
-use crate::typed::Typed;
+use crate::typed::{Found, Typed, levels, matches};
 use crate::untyped::Untyped;
 use ck_base::limits::{FORMULA_DEPTH, FORMULA_NODES};
 use ck_base::{Decls, NoMemory};
-use formulas::{Formula, copy, depth, fits, size, well_sorted_under};
+use formulas::{Formula, depth, fits, size, well_sorted_under};
 use proof_terms::Proof;
 use sorted_terms::Variables;
 use std::alloc::Global;
 
 /// The formula of a proof whose first node has number `n`, and the number of the node after its last.
-pub fn walk(
+pub fn walk<'f>(
     alloc: Global,
     decls: &Decls,
     variables: &Variables,
-    scope: &Scope,
-    p: &Proof,
+    scope: &Scope<'f, '_>,
+    p: &'f Proof,
     n: u32,
-) -> Result<(Typed, u32), Untyped>
+) -> Result<(Typed<'f>, u32), Untyped>
     requires built { IsBuilt (proof_tree p.now) }
     requires numbers { n + place.proof_nodes (proof_tree p.now) < 2 ^ 32 }
 
@@ -38,7 +40,7 @@ pub fn walk(
     ensures measured { IfOk result (λ r. IsMeasured r.0) }
 {
     match p {
-        Proof::Hyp(index) => used(alloc, scope, *index, n),
+        Proof::Hyp(index) => used(scope, *index, n),
         Proof::Lam(a, part) => {
             if is_assumable(decls, variables, a) {
                 let (b, n) = walk(alloc, decls, variables, &Scope::Under(a, &*scope), part, n)?;
@@ -48,6 +50,11 @@ pub fn walk(
                     place: n + nodes(part),
                 })
             }
+        }
+        Proof::App(p, q) => {
+            let (f, n) = walk(alloc, decls, variables, scope, p, n)?;
+            let (a, n) = walk(alloc, decls, variables, scope, q, n)?;
+            applied(f, a, n)
         }
         _ => unreachable!(),
     }
@@ -59,22 +66,22 @@ fn is_assumable(decls: &Decls, variables: &Variables, a: &Formula) -> bool
     fits(a) && well_sorted_under(decls, variables, a)
 }
 
-// A hypothesis of node `n`, copied once.
+// A hypothesis of node `n`.
 #[inline(never)]
-fn used(alloc: Global, scope: &Scope, index: u32, n: u32) -> Result<(Typed, u32), Untyped>
+fn used<'f>(scope: &Scope<'f, '_>, index: u32, n: u32) -> Result<(Typed<'f>, u32), Untyped>
     requires { n + 1 < 2 ^ 32 }
     ensures gives { Gives result (found_at (slice_get (hypotheses_under scope.now) index) n) }
     ensures next { IfOk result (λ r. r.1 ≡ n + 1) }
     ensures measured { IfOk result (λ r. IsMeasured r.0) }
 {
     match hypothesis(scope, index) {
-        Some(a) => fitting(alloc, a, n),
+        Some(a) => fitting(a, n),
         None => Err(Untyped::At { place: n }),
     }
 }
 
 #[tactic(auto, unfolding(formulas::specs::Sorts::fits))]
-fn fitting(alloc: Global, a: &Formula, n: u32) -> Result<(Typed, u32), Untyped>
+fn fitting<'f>(a: &'f Formula, n: u32) -> Result<(Typed<'f>, u32), Untyped>
     requires { n + 1 < 2 ^ 32 }
     ensures gives { Gives result (found (formula_tree a.now) n) }
     ensures next { IfOk result (λ r. r.1 ≡ n + 1) }
@@ -83,10 +90,9 @@ fn fitting(alloc: Global, a: &Formula, n: u32) -> Result<(Typed, u32), Untyped>
     if !fits(a) {
         return Err(Untyped::At { place: n });
     }
-    let formula = copy(alloc, a)?;
     Ok((
         Typed {
-            formula,
+            found: Found::Known(a),
             size: size(a),
             depth: depth(a),
         },
@@ -97,11 +103,16 @@ fn fitting(alloc: Global, a: &Formula, n: u32) -> Result<(Typed, u32), Untyped>
 // The implication of node `n`. Its size and depth come from those of its parts.
 #[inline(never)]
 #[tactic(auto, unfolding(formulas::specs::Sorts::fits))]
-fn implication(alloc: Global, a: &Formula, b: Typed, n: u32) -> Result<(Typed, u32), Untyped>
+fn implication<'f>(
+    alloc: Global,
+    a: &'f Formula,
+    b: Typed<'f>,
+    n: u32,
+) -> Result<(Typed<'f>, u32), Untyped>
     requires assumed { sorts.fits (formula_tree a.now) ≡ true }
     requires measured { IsMeasured b }
     requires numbers { n + 1 < 2 ^ 32 }
-    ensures gives { Gives result (found (joined implies (formula_tree a.now) (formula_tree b.formula)) n) }
+    ensures gives { Gives result (found (joined implies (formula_tree a.now) (found_tree b.entry.found)) n) }
     ensures next { IfOk result (λ r. r.1 ≡ n + 1) }
     ensures measured { IfOk result (λ r. IsMeasured r.0) }
 {
@@ -110,21 +121,53 @@ fn implication(alloc: Global, a: &Formula, b: Typed, n: u32) -> Result<(Typed, u
     if size > FORMULA_NODES || depth > FORMULA_DEPTH {
         return Err(Untyped::At { place: n });
     }
-    let formula = implies(alloc, copy(alloc, a)?, b.formula)?;
-    Ok((
-        Typed {
-            formula,
-            size,
-            depth,
-        },
-        n + 1,
-    ))
+    let found = implies(alloc, a, b.found)?;
+    Ok((Typed { found, size, depth }, n + 1))
 }
 
-fn implies(alloc: Global, a: Formula, b: Formula) -> Result<Formula, NoMemory>
-    ensures { IfOk result (λ r. formula_tree r ≡ joined implies (formula_tree a) (formula_tree b)) }
+fn implies<'f>(alloc: Global, a: &'f Formula, b: Found<'f>) -> Result<Found<'f>, NoMemory>
+    ensures { IfOk result (λ r. found_tree r ≡ joined implies (formula_tree a.now) (found_tree b.entry)) }
 {
-    let a = Box::new(alloc, a)?;
-    let b = Box::new(alloc, b)?;
-    Ok(Formula::Imp(a, b))
+    Ok(Found::Implies(a, Box::new(alloc, b)?))
+}
+
+// The right side of the implication `f` whose left side is `a`, of node `n`.
+#[inline(never)]
+fn applied<'f>(f: Typed<'f>, a: Typed<'f>, n: u32) -> Result<(Typed<'f>, u32), Untyped>
+    requires implication { IsMeasured f }
+    requires argument { IsMeasured a }
+    requires numbers { n + 1 < 2 ^ 32 }
+    ensures gives { Gives result (found_right (right_of (found_tree f.entry.found) (found_tree a.entry.found)) n) }
+    ensures next { IfOk result (λ r. r.1 ≡ n + 1) }
+    ensures measured { IfOk result (λ r. IsMeasured r.0) }
+{
+    let Some(found) = right_side(f.found, &a.found) else {
+        return Err(Untyped::At { place: n });
+    };
+    let size = f.size - a.size - 1;
+    let depth = levels(&found);
+    Ok((Typed { found, size, depth }, n + 1))
+}
+
+// The right side of an implication that has that left side.
+fn right_side<'f>(f: Found<'f>, left: &Found) -> Option<Found<'f>>
+    ensures { option_map (λ b. found_tree b) result ≡ right_of (found_tree f.entry) (found_tree left.now) }
+{
+    match f {
+        Found::Known(Formula::Imp(a, b)) => {
+            if matches(a, left) {
+                Some(Found::Known(b))
+            } else {
+                None
+            }
+        }
+        Found::Known(_) => None,
+        Found::Implies(a, b) => {
+            if matches(a, left) {
+                Some(Box::into_inner(b))
+            } else {
+                None
+            }
+        }
+    }
 }

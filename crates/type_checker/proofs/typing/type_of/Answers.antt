@@ -1,7 +1,9 @@
 use Rattle.std.proofs.lemmas.Result.{err_from_is_err_and}
-use Rattle.formulas.specs.Tree.{formula_tree}
+use Rattle.std.proofs.Common.{sym, subst}
 use Rattle.proof_terms.specs.Tree.{proof_tree}
 use Rattle.formulas.specs.Context.{variables_of, hypotheses_of}
+use Rattle.type_checker.specs.Found.{found_tree}
+use Rattle.type_checker.specs.Typing.{Has}
 use Rattle.type_checker.proofs.Exact.{has, none_from, place_from}
 use Rattle.type_checker.proofs.typing.type_of.Goals as goal
 
@@ -17,4 +19,5 @@ returns-in_err-typed-clause-place c =
 
 pub returns-clause-ok : goal.returns-clause-ok
 returns-clause-ok c =
-    (has c.args.decls.now (variables_of c.args.context.now) (hypotheses_of c.args.context.now) (proof_tree c.args.p.now) 0 (formula_tree c.in_ok-typed.typed.formula) c.in_ok-typed.field-0-1 c.in_ok-typed.ensures.gives).0
+    let given = has c.args.decls.now (variables_of c.args.context.now) (hypotheses_of c.args.context.now) (proof_tree c.args.p.now) 0 (found_tree c.in_ok-typed.typed.found) c.in_ok-typed.field-0-1 c.in_ok-typed.ensures.gives in
+    subst (λ a. Has c.args.decls.now (variables_of c.args.context.now) (hypotheses_of c.args.context.now) (proof_tree c.args.p.now) a) (sym c.in_ok-copied.ensures) given.0
