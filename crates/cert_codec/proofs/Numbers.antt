@@ -1,5 +1,5 @@
 -- Numbers are read as they are spelled, and no other bytes are.
-use Rattle.std.proofs.Common.{◌≡◌, ℕ, zero, suc, ◌+◌, ◌-◌, ◌*◌, ◌/◌, ◌%◌, ◌^◌, ◌≤◌, ◌<◌, true, false, ltb, List, [], ◌∷◌, length, replicate, refl, sym, ap, subst, ◌∙◌, arith, inl, inr, ◌⊎◌, pow-suc, mul_comm, nat_lt, if◌then◌else◌}
+use Rattle.std.proofs.Common.{◌≡◌, ℕ, zero, suc, ◌+◌, ◌-◌, ◌*◌, ◌/◌, ◌%◌, ◌^◌, ◌≤◌, ◌<◌, Bool, true, false, ltb, List, [], ◌∷◌, length, replicate, refl, sym, ap, subst, ◌∙◌, arith, inl, inr, ◌⊎◌, pow-suc, mul_comm, nat_lt, if◌then◌else◌}
 use mathlib.Core.Logic.{⊎_elim}
 use Rattle.std.proofs.lemmas.Bool.{cases_lt, lt-ltb, le-ltb, ltb-true, leb-true, le-leb, and_parts, and_from}
 use Rattle.std.proofs.lemmas.Nat.{div-mul-add, mod-mul-add, div_below, mod_below}
@@ -79,8 +79,8 @@ from_digits n large =
 abbrev IsHigh : ℕ → ℕ → Type 0
 IsHigh more n = (0 < n) × (n < 16 * 128 ^ more)
 
--- the same level for each byte
-abbrev pub flat : {A : Type 0} → ℕ → (A → List ℕ) → A → List ℕ
+-- the same for each byte
+abbrev pub flat : {A : Type 0} → Bool → (A → List ℕ) → A → List Bool
 flat level spelling n = replicate (length (spelling n)) level
 
 abbrev AreDigits : ℕ → ℕ → Type 0
@@ -117,13 +117,13 @@ starts_long more n h =
     let p = goes_on_parts h.0 h.3 in
     (h.0, number_bytes more h.1, ap (number_bytes (suc more)) h.2 ∙ many_digits more h.0 h.1 h.3 h.4.0, le-ltb h.0 128 p.0)
 
-one_digit_laws : (level : ℕ) → level ≤ 2048 → (more : ℕ) → Laws (λ n. between 1 128 n ≡ true) (number_bytes more) (flat level (number_bytes more)) (one (between 1 128))
+one_digit_laws : (level : Bool) → level ≡ true → (more : ℕ) → Laws (λ n. between 1 128 n ≡ true) (number_bytes more) (flat level (number_bytes more)) (one (between 1 128))
 one_digit_laws level low more =
     like (one_laws level low (between 1 128) 1 refl) (λ n h. h) (λ n h. h)
     (λ n h. short_number more n (between_parts 1 128 n h).1)
     (λ n h. ap (λ w. replicate (length w) level) (short_number more n (between_parts 1 128 n h).1))
 
-digits_laws : (level : ℕ) → level ≤ 2048 → (more : ℕ) {read : List ℕ → Read ℕ} → Laws (IsHigh more) (number_bytes more) (flat level (number_bytes more)) read → Laws (AreDigits more) (number_bytes (suc more)) (flat level (number_bytes (suc more))) (both with_low (one goes_on) read)
+digits_laws : (level : Bool) → level ≡ true → (more : ℕ) {read : List ℕ → Read ℕ} → Laws (IsHigh more) (number_bytes more) (flat level (number_bytes more)) read → Laws (AreDigits more) (number_bytes (suc more)) (flat level (number_bytes (suc more))) (both with_low (one goes_on) read)
 digits_laws level low more {read} l =
     both_laws with_low (number_bytes (suc more)) (flat level (number_bytes (suc more))) (one_laws level low goes_on 128 refl) l
     (λ x high e h. many_digits more x high e h.0)
@@ -132,7 +132,7 @@ digits_laws level low more {read} l =
 high_zero_to : (n : ℕ) → between 1 16 n ≡ true → IsHigh 0 n
 high_zero_to n h = let p = between_parts 1 16 n h in (omega (arith, p.0), omega (arith, p.1))
 
-high_laws : (level : ℕ) → level ≤ 2048 → (more : ℕ) → Laws (IsHigh more) (number_bytes more) (flat level (number_bytes more)) (high_at more)
+high_laws : (level : Bool) → level ≡ true → (more : ℕ) → Laws (IsHigh more) (number_bytes more) (flat level (number_bytes more)) (high_at more)
 unfolding high_at number_bytes
 high_laws level low zero =
     like (one_laws level low (between 1 16) 1 refl) high_zero_to (λ n h. between_from 1 16 n (omega (arith, h.0)) (omega (arith, h.1))) (λ n h. refl) (λ n h. refl)
@@ -171,7 +171,7 @@ number_from n h =
     inr (128 + n % 128, n / 128, d.0, between_from 128 256 (128 + n % 128) d.1 d.2, (d.3, div_below n 128 (16 * 128 ^ 3) (omega arith) (omega (arith, h)))))
     (cases_lt n 128)
 
-last_laws : (level : ℕ) → level ≤ 2048 → Laws (λ n. is_last n ≡ true) (number_bytes 4) (flat level (number_bytes 4)) (one is_last)
+last_laws : (level : Bool) → level ≡ true → Laws (λ n. is_last n ≡ true) (number_bytes 4) (flat level (number_bytes 4)) (one is_last)
 last_laws level low =
     like (one_laws level low is_last 0 refl) (λ n h. h) (λ n h. h)
     (λ n h. short_number 4 n (ltb-true n 128 h))
@@ -180,7 +180,7 @@ last_laws level low =
 starts_last : StartsSo is_last true (number_bytes 4) (λ n. is_last n ≡ true)
 starts_last n h = (n, [], short_number 4 n (ltb-true n 128 h), h)
 
-pub number_laws : (level : ℕ) → level ≤ 2048 → Laws IsNumber spell_number (flat level spell_number) number_at
+pub number_laws : (level : Bool) → level ≡ true → Laws IsNumber spell_number (flat level spell_number) number_at
 unfolding number_at
 number_laws level low =
     like (choose_laws is_last (last_laws level low) (digits_laws level low 3 (high_laws level low 3)) starts_last (starts_long 3)) number_to number_from

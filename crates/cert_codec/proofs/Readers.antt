@@ -54,35 +54,30 @@ split (x ∷ xs) ys (z ∷ front) y more e =
 
 -- ---- levels
 
--- no level is above 2,048
-abbrev pub Shallow : List ℕ → Type 0
-Shallow = AllByRecursion (λ level. level ≤ 2048)
+-- each byte stands within its bound
+abbrev pub Shallow : List Bool → Type 0
+Shallow = AllByRecursion (λ is_within. is_within ≡ true)
 
-pub shallow_both : (xs ys : List ℕ) → Shallow xs → Shallow ys → Shallow (xs ++ ys)
+pub shallow_both : (xs ys : List Bool) → Shallow xs → Shallow ys → Shallow (xs ++ ys)
 shallow_both [] ys h k = k
 shallow_both (x ∷ xs) ys h k = (h.0, shallow_both xs ys h.1 k)
 
-pub shallow_left : (xs ys : List ℕ) → Shallow (xs ++ ys) → Shallow xs
+pub shallow_left : (xs ys : List Bool) → Shallow (xs ++ ys) → Shallow xs
 shallow_left [] ys h = tt
 shallow_left (x ∷ xs) ys h = (h.0, shallow_left xs ys h.1)
 
-pub shallow_right : (xs ys : List ℕ) → Shallow (xs ++ ys) → Shallow ys
+pub shallow_right : (xs ys : List Bool) → Shallow (xs ++ ys) → Shallow ys
 shallow_right [] ys h = h
 shallow_right (x ∷ xs) ys h = shallow_right xs ys h.1
 
-pub shallow_replicate : (n level : ℕ) → level ≤ 2048 → Shallow (replicate n level)
-shallow_replicate zero level le = tt
-shallow_replicate (suc n) level le = (le, shallow_replicate n level le)
-
-pub shallow_take : (n : ℕ) (xs : List ℕ) → Shallow xs → Shallow (take n xs)
-shallow_take zero xs h = tt
-shallow_take (suc n) [] h = tt
-shallow_take (suc n) (x ∷ xs) h = (h.0, shallow_take n xs h.1)
+pub shallow_replicate : (n : ℕ) (w : Bool) → w ≡ true → Shallow (replicate n w)
+shallow_replicate zero w is = tt
+shallow_replicate (suc n) w is = (is, shallow_replicate n w is)
 
 -- ---- what a reader owes
 
 -- a front of a spelling
-pub record Begins {A : Type 0} (Good : A → Type 0) (spelling levels : A → List ℕ) (front : List ℕ) : Type 0 where
+pub record Begins {A : Type 0} (Good : A → Type 0) (spelling : A → List ℕ) (levels : A → List Bool) (front : List ℕ) : Type 0 where
   pub tree : A
   pub good : Good tree
   pub more : List ℕ
@@ -90,14 +85,14 @@ pub record Begins {A : Type 0} (Good : A → Type 0) (spelling levels : A → Li
   pub shallow : Shallow (take (length front) (levels tree))
 
 -- A fault: the bytes before it begin a spelling, and what follows its byte does not matter.
-pub record Stops {A : Type 0} (Good : A → Type 0) (spelling levels : A → List ℕ) (read : List ℕ → Read A) (bytes rest : List ℕ) : Type 0 where
+pub record Stops {A : Type 0} (Good : A → Type 0) (spelling : A → List ℕ) (levels : A → List Bool) (read : List ℕ → Read A) (bytes rest : List ℕ) : Type 0 where
   pub front : List ℕ
   pub whole : bytes ≡ front ++ rest
   pub begins : Begins Good spelling levels front
   pub local : (x : ℕ) (left other : List ℕ) → rest ≡ x ∷ left → read (front ++ x ∷ other) ≡ Err (x ∷ other)
 
--- Good trees with no level above 2,048 are read, and nothing else. `levels` has a level for each byte.
-pub record Laws {A : Type 0} (Good : A → Type 0) (spelling levels : A → List ℕ) (read : List ℕ → Read A) : Type 0 where
+-- Good trees with each byte within its bound are read, and nothing else. `levels` says for each byte whether it is.
+pub record Laws {A : Type 0} (Good : A → Type 0) (spelling : A → List ℕ) (levels : A → List Bool) (read : List ℕ → Read A) : Type 0 where
   pub some : A
   pub some_good : Good some
   pub even : (a : A) → Good a → length (levels a) ≡ length (spelling a)
@@ -109,7 +104,7 @@ pub record Laws {A : Type 0} (Good : A → Type 0) (spelling levels : A → List
 
 -- ---- the same reader, in other words
 
-pub like : {A : Type 0} {G H : A → Type 0} {sp sp' lv lv' : A → List ℕ} {read : List ℕ → Read A} → Laws G sp lv read → ((a : A) → G a → H a) → ((a : A) → H a → G a) → ((a : A) → G a → sp' a ≡ sp a) → ((a : A) → G a → lv' a ≡ lv a) → Laws H sp' lv' read
+pub like : {A : Type 0} {G H : A → Type 0} {sp sp' : A → List ℕ} {lv lv' : A → List Bool} {read : List ℕ → Read A} → Laws G sp lv read → ((a : A) → G a → H a) → ((a : A) → H a → G a) → ((a : A) → G a → sp' a ≡ sp a) → ((a : A) → G a → lv' a ≡ lv a) → Laws H sp' lv' read
 like {A} {G} {H} {sp} {sp'} {lv} {lv'} {read} l to from words heights = record {
   some = l.some;
   some_good = to l.some l.some_good;
@@ -183,7 +178,7 @@ one_err test (z ∷ bytes) rest e = by (test z) refl e
         let k = err_is {A = ℕ × List ℕ} (z ∷ bytes) rest e in
         (k, λ x left other f. rw (subst (λ w. test w ≡ false) (cons_head z x bytes left (k ∙ f)) t) refl)
 
-pub one_laws : (level : ℕ) → level ≤ 2048 → (test : ℕ → Bool) (x : ℕ) → test x ≡ true → Laws (λ n. test n ≡ true) (λ n. n ∷ []) (λ n. level ∷ []) (one test)
+pub one_laws : (level : Bool) → level ≡ true → (test : ℕ → Bool) (x : ℕ) → test x ≡ true → Laws (λ n. test n ≡ true) (λ n. n ∷ []) (λ n. level ∷ []) (one test)
 one_laws level low test x passes = record {
   some = x;
   some_good = passes;
@@ -209,9 +204,9 @@ one_laws level low test x passes = record {
     at_start n [] y more e = refl
     at_start n (z ∷ front) y more e = absurd (no_more front y more (cons_tail n z [] (front ++ y ∷ more) e))
 
--- ---- no byte at all, where every level is too deep
+-- ---- no byte at all, where the first one is not within its bound
 
-pub closed_laws : {A : Type 0} (Good : A → Type 0) (spelling levels : A → List ℕ) (some : A) → Good some → ((a : A) → Good a → length (levels a) ≡ length (spelling a)) → ((a : A) → Good a → (level : ℕ) × (more : List ℕ) × (levels a ≡ level ∷ more) × (2048 < level)) → Laws Good spelling levels (λ bytes. Err bytes)
+pub closed_laws : {A : Type 0} (Good : A → Type 0) (spelling : A → List ℕ) (levels : A → List Bool) (some : A) → Good some → ((a : A) → Good a → length (levels a) ≡ length (spelling a)) → ((a : A) → Good a → (more : List Bool) × (levels a ≡ false ∷ more)) → Laws Good spelling levels (λ bytes. Err bytes)
 closed_laws {A} Good spelling levels some some_good even too_deep = record {
   some = some;
   some_good = some_good;
@@ -227,20 +222,19 @@ closed_laws {A} Good spelling levels some some_good even too_deep = record {
   };
 }
   where
+    differ : false ≡ true → ⊥
+    differ e = absurd cc
+
     never : (a : A) → Good a → Shallow (levels a) → ⊥
     never a h deep =
-        let d = too_deep a h in
-        let k = subst Shallow d.2 deep in
-        let le : d.0 ≤ 2048 = k.0 in
-        omega (arith, le, d.3)
+        let k = subst Shallow (too_deep a h).1 deep in
+        differ k.0
 
     at_start : (a : A) → Good a → (front : List ℕ) → Shallow (take (length front) (levels a)) → stopped {A = A × List ℕ} front ≡ Err []
     at_start a h [] deep = refl
     at_start a h (z ∷ front) deep =
-        let d = too_deep a h in
-        let k = subst (λ w. Shallow (take (suc (length front)) w)) d.2 deep in
-        let le : d.0 ≤ 2048 = k.0 in
-        absurd (omega (arith, le, d.3))
+        let k = subst (λ w. Shallow (take (suc (length front)) w)) (too_deep a h).1 deep in
+        absurd (differ k.0)
 
 -- ---- one after the other
 
@@ -248,7 +242,7 @@ closed_laws {A} Good spelling levels some some_good even too_deep = record {
 abbrev pub IsBoth : {A B C : Type 0} → (A → B → C) → (A → Type 0) → (B → Type 0) → C → Type 0
 IsBoth {A} {B} f G H c = (a : A) × (b : B) × (c ≡ f a b) × G a × H b
 
-module _ {A B C : Type 0} (f : A → B → C) {G : A → Type 0} {H : B → Type 0} {spa lva : A → List ℕ} {spb lvb : B → List ℕ} (spc lvc : C → List ℕ) {r : List ℕ → Read A} {s : List ℕ → Read B} (l : Laws G spa lva r) (m : Laws H spb lvb s) (words : (a : A) (b : B) → G a → H b → spc (f a b) ≡ spa a ++ spb b) (heights : (a : A) (b : B) → G a → H b → lvc (f a b) ≡ lva a ++ lvb b) where
+module _ {A B C : Type 0} (f : A → B → C) {G : A → Type 0} {H : B → Type 0} {spa : A → List ℕ} {lva : A → List Bool} {spb : B → List ℕ} {lvb : B → List Bool} (spc : C → List ℕ) (lvc : C → List Bool) {r : List ℕ → Read A} {s : List ℕ → Read B} (l : Laws G spa lva r) (m : Laws H spb lvb s) (words : (a : A) (b : B) → G a → H b → spc (f a b) ≡ spa a ++ spb b) (heights : (a : A) (b : B) → G a → H b → lvc (f a b) ≡ lva a ++ lvb b) where
   abbrev then_second : A × List ℕ → Read C
   then_second a = s a.1 >>= (λ b. Ok (f a.0 b.0, b.1))
 
@@ -373,7 +367,7 @@ tag_is tag = elim (eqb_tells tag tag) [
   | inr k ↦ absurd (k.1 refl)
 ]
 
-pub after_laws : {A C : Type 0} (level : ℕ) → level ≤ 2048 → (tag : ℕ) (f : A → C) {G : A → Type 0} {spa lva : A → List ℕ} (spc lvc : C → List ℕ) {r : List ℕ → Read A} → Laws G spa lva r → ((a : A) → G a → spc (f a) ≡ tag ∷ spa a) → ((a : A) → G a → lvc (f a) ≡ level ∷ lva a) → Laws (IsAfter f G) spc lvc (after tag f r)
+pub after_laws : {A C : Type 0} (level : Bool) → level ≡ true → (tag : ℕ) (f : A → C) {G : A → Type 0} {spa : A → List ℕ} {lva : A → List Bool} (spc : C → List ℕ) (lvc : C → List Bool) {r : List ℕ → Read A} → Laws G spa lva r → ((a : A) → G a → spc (f a) ≡ tag ∷ spa a) → ((a : A) → G a → lvc (f a) ≡ level ∷ lva a) → Laws (IsAfter f G) spc lvc (after tag f r)
 after_laws {A} {C} level low tag f {G} {spa} {lva} spc lvc {r} l words heights =
     let first = one_laws level low (λ x. x == tag) tag (tag_is tag) in
     let l' = both_laws (λ (x : ℕ) (a : A). f a) spc lvc first l (λ x a e g. words a g ∙ (λ i. sym (is_tag tag x e) i ∷ spa a)) (λ x a e g. heights a g) in
@@ -384,7 +378,7 @@ after_laws {A} {C} level low tag f {G} {spa} {lva} spc lvc {r} l words heights =
 abbrev pub StartsSo : {A : Type 0} → (ℕ → Bool) → Bool → (A → List ℕ) → (A → Type 0) → Type 0
 StartsSo {A} test b spelling G = (a : A) → G a → (x : ℕ) × (more : List ℕ) × (spelling a ≡ x ∷ more) × (test x ≡ b)
 
-module _ {A : Type 0} (test : ℕ → Bool) {G H : A → Type 0} {sp lv : A → List ℕ} {r s : List ℕ → Read A} (l : Laws G sp lv r) (m : Laws H sp lv s) (yes : StartsSo test true sp G) (no : StartsSo test false sp H) where
+module _ {A : Type 0} (test : ℕ → Bool) {G H : A → Type 0} {sp : A → List ℕ} {lv : A → List Bool} {r s : List ℕ → Read A} (l : Laws G sp lv r) (m : Laws H sp lv s) (yes : StartsSo test true sp G) (no : StartsSo test false sp H) where
   choose_takes : (bytes : List ℕ) (a : A) (rest : List ℕ) → choose test r s bytes ≡ Ok (a, rest) → (bytes ≡ sp a ++ rest) × (G a ⊎ H a) × Shallow (lv a)
   choose_takes [] a rest e = let t = m.takes [] a rest e in (t.0, inr t.1, t.2)
   choose_takes (x ∷ bytes) a rest e = by (test x) e

@@ -1,48 +1,111 @@
 -- What is read of all the bytes, and where reading stops.
-use Rattle.std.proofs.Common.{◌≡◌, ℕ, suc, ◌+◌, ◌-◌, ◌≤◌, ◌<◌, Bool, false, cond, List, [], ◌∷◌, ◌++◌, length, take, replicate, Result, Ok, Err, refl, sym, ap, subst, ◌∙◌, append_assoc, arith, inl, inr, ◌⊎◌, ◌==◌}
+use Rattle.std.proofs.Common.{◌≡◌, ℕ, suc, ◌+◌, ◌-◌, ◌≤◌, ◌<◌, Bool, true, false, cond, List, [], ◌∷◌, ◌++◌, length, take, replicate, Result, Ok, Err, refl, sym, ap, subst, ◌∙◌, append_assoc, arith, inl, inr, ◌⊎◌, ◌==◌}
 use Rattle.std.proofs.lemmas.List.{length-append, append-nil, take_at, take_all}
 use Rattle.std.proofs.lemmas.Bool.Decides.{eqb_tells}
-use Rattle.proof_terms.specs.Tree.{ProofTree, hypothesis, lambda}
+use Rattle.std.specs.Prelude.{nat_le, max}
+use Rattle.std.specs.List.{flat_map}
+use Rattle.std.proofs.lemmas.Bool.{le-leb, leb-true, and_parts}
+use Rattle.sorted_terms.specs.Tree.{boolean}
+use Rattle.formulas.specs.Tree.{implies, FormulaTree, bottom, holds, joined}
+use Rattle.formulas.specs.Sorts.{depth}
+use Rattle.proof_terms.specs.Tree.{ProofTree, hypothesis, lambda, application}
 use Rattle.proof_terms.specs.Size.{proof_depth}
 use Rattle.cert_codec.specs.Tree.{NodeTree, skip, CertificateTree}
-use Rattle.cert_codec.specs.Spelling.{spell_number, spell_formula, spell, IsBuiltProof, IsBuiltNode, IsBuilt, IsShallowNode, Spells}
-use Rattle.cert_codec.specs.Front.{proof_levels, node_levels, levels, BeginsSpelling, IsMalformedAt}
+use Rattle.cert_codec.specs.Spelling.{spell_number, spell_decl, magic, spell, is_built_formula, IsBuiltProof, IsBuiltNode, IsBuilt, HasShallowFormulas, IsShallowNode, IsShallow, Spells}
+use Rattle.cert_codec.specs.Front.{formula_within, proof_within, node_within, certificate_within, BeginsSpelling, IsMalformedAt}
 use Rattle.cert_codec.specs.Reading.{certificate_at, whole_of}
 use Rattle.cert_codec.specs.Laws.{OneSpelling, NoProperPrefix}
-use Rattle.cert_codec.proofs.Readers.{Begins, Shallow, shallow_both, shallow_right, shallow_replicate, ok_is, err_is, apart, bind_ok, bind_err}
+use Rattle.cert_codec.proofs.Readers.{Begins, Shallow, shallow_both, shallow_left, shallow_right, shallow_replicate, ok_is, err_is, apart, bind_ok, bind_err}
 use Rattle.cert_codec.proofs.Trees.{certificate_laws}
 
 -- ---- levels and depth
 
-depth_of : (level : ℕ) (p : ProofTree) → IsBuiltProof p → Shallow (proof_levels level p) → level + proof_depth p ≤ 2049
-depth_of level (hypothesis k) h deep = let le : level ≤ 2048 = deep.0 in omega (arith, le)
-depth_of level (lambda a p) h deep =
-    let below = depth_of (suc level) p h.1 (shallow_right (replicate (suc (length (spell_formula a))) level) (proof_levels (suc level) p) deep) in
-    omega (arith, below)
-depth_of level p h deep = absurd h
+max_parts : (level bound m n : ℕ) → suc level + m ≤ bound → suc level + n ≤ bound → level + (1 + max m n) ≤ bound
+max_parts level bound m n le le' = omega arith
 
-levels_of : (level : ℕ) (p : ProofTree) → IsBuiltProof p → level + proof_depth p ≤ 2049 → Shallow (proof_levels level p)
-levels_of level (hypothesis k) h le = shallow_replicate (suc (length (spell_number k))) level (omega (arith, le))
-levels_of level (lambda a p) h le =
-    shallow_both (replicate (suc (length (spell_formula a))) level) (proof_levels (suc level) p) (shallow_replicate (suc (length (spell_formula a))) level (omega (arith, le))) (levels_of (suc level) p h.1 (omega (arith, le)))
-levels_of level p h le = absurd h
+formula_depth : (level : ℕ) (a : FormulaTree) → is_built_formula a ≡ true → Shallow (formula_within level a) → level + depth a ≤ 257
+formula_depth level bottom e deep = let le : level ≤ 256 = leb-true level 256 deep.0 in omega (arith, le)
+formula_depth level (holds (boolean false)) e deep = let le : suc level ≤ 256 = leb-true (suc level) 256 deep.1.0 in omega (arith, le)
+formula_depth level (holds (boolean true)) e deep = let le : suc level ≤ 256 = leb-true (suc level) 256 deep.1.0 in omega (arith, le)
+formula_depth level (joined implies a b) e deep =
+    let p = and_parts _ _ e in
+    let left : suc level + depth a ≤ 257 = formula_depth (suc level) a p.0 (shallow_left (formula_within (suc level) a) (formula_within (suc level) b) deep.1) in
+    let right : suc level + depth b ≤ 257 = formula_depth (suc level) b p.1 (shallow_right (formula_within (suc level) a) (formula_within (suc level) b) deep.1) in
+    max_parts level 257 (depth a) (depth b) left right
+formula_depth level a e deep = absurd (cc)
 
-node_depth : (n : NodeTree) → IsBuiltNode n → Shallow (node_levels n) → IsShallowNode n
-node_depth (skip p) h deep = let le = depth_of 1 p h deep.1 in omega (arith, le)
+formula_shallow : (level : ℕ) (a : FormulaTree) → is_built_formula a ≡ true → level + depth a ≤ 257 → Shallow (formula_within level a)
+formula_shallow level bottom e le = (le-leb level 256 (omega (arith, le)), tt)
+formula_shallow level (holds (boolean false)) e le = (le-leb level 256 (omega (arith, le)), (le-leb (suc level) 256 (omega (arith, le)), tt))
+formula_shallow level (holds (boolean true)) e le = (le-leb level 256 (omega (arith, le)), (le-leb (suc level) 256 (omega (arith, le)), tt))
+formula_shallow level (joined implies a b) e le =
+    let p = and_parts _ _ e in
+    (le-leb level 256 (omega (arith, le)), shallow_both (formula_within (suc level) a) (formula_within (suc level) b) (formula_shallow (suc level) a p.0 (omega (arith, le))) (formula_shallow (suc level) b p.1 (omega (arith, le))))
+formula_shallow level a e le = absurd (cc)
 
-node_shallow : (n : NodeTree) → IsBuiltNode n → IsShallowNode n → Shallow (node_levels n)
-node_shallow (skip p) h le = (omega arith, levels_of 1 p h (omega (arith, le)))
+abbrev IsWithin : ℕ → ProofTree → Type 0
+IsWithin level p = (level + proof_depth p ≤ 2049) × HasShallowFormulas p
 
-to_depth : (c : CertificateTree) → IsBuilt c → Shallow (levels c) → IsShallowNode c.node
-to_depth c h deep = node_depth c.node h.node (shallow_right (replicate (length (spell c) - length (node_levels c.node)) 0) (node_levels c.node) deep)
+proof_is_within : (level : ℕ) (p : ProofTree) → IsBuiltProof p → Shallow (proof_within level p) → IsWithin level p
+proof_is_within level (hypothesis k) h deep = let le : level ≤ 2048 = leb-true level 2048 deep.0 in (omega (arith, le), tt)
+proof_is_within level (lambda a p) h deep =
+    let formula : 1 + depth a ≤ 257 = formula_depth 1 a h.0 (shallow_left (formula_within 1 a) (proof_within (suc level) p) deep.1) in
+    let below = proof_is_within (suc level) p h.1 (shallow_right (formula_within 1 a) (proof_within (suc level) p) deep.1) in
+    let le : suc level + proof_depth p ≤ 2049 = below.0 in
+    (omega (arith, le), (omega (arith, formula), below.1))
+proof_is_within level (application p q) h deep =
+    let left = proof_is_within (suc level) p h.0 (shallow_left (proof_within (suc level) p) (proof_within (suc level) q) deep.1) in
+    let right = proof_is_within (suc level) q h.1 (shallow_right (proof_within (suc level) p) (proof_within (suc level) q) deep.1) in
+    (max_parts level 2049 (proof_depth p) (proof_depth q) left.0 right.0, (left.1, right.1))
+proof_is_within level p h deep = absurd h
 
-to_shallow : (c : CertificateTree) → IsBuilt c → IsShallowNode c.node → Shallow (levels c)
-to_shallow c h le =
-    shallow_both (replicate (length (spell c) - length (node_levels c.node)) 0) (node_levels c.node) (shallow_replicate (length (spell c) - length (node_levels c.node)) 0 (omega arith)) (node_shallow c.node h.node le)
+proof_shallow : (level : ℕ) (p : ProofTree) → IsBuiltProof p → level + proof_depth p ≤ 2049 → HasShallowFormulas p → Shallow (proof_within level p)
+proof_shallow level (hypothesis k) h le f = shallow_replicate (suc (length (spell_number k))) (nat_le level 2048) (le-leb level 2048 (omega (arith, le)))
+proof_shallow level (lambda a p) h le f =
+    let formula : depth a ≤ 256 = f.0 in
+    (le-leb level 2048 (omega (arith, le)), shallow_both (formula_within 1 a) (proof_within (suc level) p) (formula_shallow 1 a h.0 (omega (arith, formula))) (proof_shallow (suc level) p h.1 (omega (arith, le)) f.1))
+proof_shallow level (application p q) h le f =
+    (le-leb level 2048 (omega (arith, le)), shallow_both (proof_within (suc level) p) (proof_within (suc level) q) (proof_shallow (suc level) p h.0 (omega (arith, le)) f.0) (proof_shallow (suc level) q h.1 (omega (arith, le)) f.1))
+proof_shallow level p h le f = absurd h
+
+node_depth : (n : NodeTree) → IsBuiltNode n → Shallow (node_within n) → IsShallowNode n
+node_depth (skip p) h deep =
+    let w = proof_is_within 1 p h deep.1 in
+    let le : 1 + proof_depth p ≤ 2049 = w.0 in
+    (omega (arith, le), w.1)
+
+node_shallow : (n : NodeTree) → IsBuiltNode n → IsShallowNode n → Shallow (node_within n)
+node_shallow (skip p) h s =
+    let le : proof_depth p ≤ 2048 = s.0 in
+    (refl, proof_shallow 1 p h (omega (arith, le)) s.1)
+
+abbrev before : CertificateTree → List Bool
+before c = replicate (length magic + suc (length (flat_map spell_decl c.names))) true
+
+to_depth : (c : CertificateTree) → IsBuilt c → Shallow (certificate_within c) → IsShallow c
+to_depth c h deep =
+    let body = shallow_right (before c) (formula_within 1 c.pre ++ (formula_within 1 c.post ++ node_within c.node)) deep in
+    let later = shallow_right (formula_within 1 c.pre) (formula_within 1 c.post ++ node_within c.node) body in
+    let pre : 1 + depth c.pre ≤ 257 = formula_depth 1 c.pre h.pre (shallow_left (formula_within 1 c.pre) (formula_within 1 c.post ++ node_within c.node) body) in
+    let post : 1 + depth c.post ≤ 257 = formula_depth 1 c.post h.post (shallow_left (formula_within 1 c.post) (node_within c.node) later) in
+    record {
+      pre = omega (arith, pre);
+      post = omega (arith, post);
+      node = node_depth c.node h.node (shallow_right (formula_within 1 c.post) (node_within c.node) later);
+    }
+
+to_shallow : (c : CertificateTree) → IsBuilt c → IsShallow c → Shallow (certificate_within c)
+to_shallow c h s =
+    let pre : depth c.pre ≤ 256 = s.pre in
+    let post : depth c.post ≤ 256 = s.post in
+    shallow_both (before c) (formula_within 1 c.pre ++ (formula_within 1 c.post ++ node_within c.node))
+    (shallow_replicate (length magic + suc (length (flat_map spell_decl c.names))) true refl)
+    (shallow_both (formula_within 1 c.pre) (formula_within 1 c.post ++ node_within c.node) (formula_shallow 1 c.pre h.pre (omega (arith, pre)))
+    (shallow_both (formula_within 1 c.post) (node_within c.node) (formula_shallow 1 c.post h.post (omega (arith, post))) (node_shallow c.node h.node s.node)))
 
 -- ---- a certificate and what follows it
 
-pub read_again : (c : CertificateTree) → IsBuilt c → IsShallowNode c.node → (rest : List ℕ) → certificate_at (spell c ++ rest) ≡ Ok (c, rest)
+pub read_again : (c : CertificateTree) → IsBuilt c → IsShallow c → (rest : List ℕ) → certificate_at (spell c ++ rest) ≡ Ok (c, rest)
 read_again c h le rest = certificate_laws.again c h (to_shallow c h le) rest
 
 -- the bytes after it decide
@@ -91,7 +154,7 @@ front_reads front b = by b.more b.begins
     by [] e =
         let whole : spell b.certificate ≡ front = e ∙ append-nil front in
         let even = certificate_laws.even b.certificate b.built in
-        let all : take (length front) (levels b.certificate) ≡ levels b.certificate = take_all (length front) (levels b.certificate) (omega (arith, even, ap length whole)) in
+        let all : take (length front) (certificate_within b.certificate) ≡ certificate_within b.certificate = take_all (length front) (certificate_within b.certificate) (omega (arith, even, ap length whole)) in
         inr (b.certificate, ap certificate_at (sym whole ∙ sym (append-nil (spell b.certificate))) ∙ certificate_laws.again b.certificate b.built (subst Shallow all b.shallow) [])
     by (y ∷ more) e = inl (certificate_laws.short b.certificate b.built front y more e b.shallow)
 
@@ -124,7 +187,7 @@ malformed_at bytes front rest at whole place b no_more =
         no_more x left refl (subst BeginsSpelling is more)
 
 -- a front of the laws is one of the definition
-begins : (front : List ℕ) → Begins IsBuilt spell levels front → BeginsSpelling front
+begins : (front : List ℕ) → Begins IsBuilt spell certificate_within front → BeginsSpelling front
 begins front b = record { certificate = b.tree; built = b.good; more = b.more; begins = b.begins; shallow = b.shallow }
 
 pub is_malformed_at : (bytes rest : List ℕ) (at : ℕ) → whole_of bytes ≡ Err rest → at + length rest ≡ length bytes → IsMalformedAt bytes at
@@ -139,7 +202,7 @@ is_malformed_at bytes rest at e place =
           let left-is : k.0.1 ≡ rest = end_err c k.0.1 rest k.2 in
           let t = certificate_laws.takes bytes c k.0.1 k.1 in
           let even = certificate_laws.even c t.1 in
-          let all : take (length (spell c)) (levels c) ≡ levels c = take_all (length (spell c)) (levels c) (omega (arith, even)) in
+          let all : take (length (spell c)) (certificate_within c) ≡ certificate_within c = take_all (length (spell c)) (certificate_within c) (omega (arith, even)) in
           malformed_at bytes (spell c) rest at (t.0 ∙ ap (λ w. spell c ++ w) left-is) place
           (record { certificate = c; built = t.1; more = []; begins = sym (append-nil (spell c)); shallow = subst Shallow (sym all) t.2 })
           (λ x left f. no_front (spell c) x (inr (c, certificate_laws.again c t.1 t.2 (x ∷ []))))

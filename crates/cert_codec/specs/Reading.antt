@@ -1,9 +1,9 @@
 -- The reader of certificates as functions on lists. An error has the bytes that are left, from the first
 -- one with which no spelling goes on.
-use Rattle.std.specs.Prelude.{◌≡◌, ℕ, zero, suc, ◌+◌, ◌-◌, ◌*◌, Bool, true, List, [], ◌∷◌, length, Result, Ok, Err, nat_lt, nat_le, ◌==◌, ◌&&◌, if◌then◌else◌}
-use Rattle.formulas.specs.Tree.{FormulaTree, bottom, holds}
-use Rattle.sorted_terms.specs.Tree.{boolean}
-use Rattle.proof_terms.specs.Tree.{ProofTree, hypothesis, lambda}
+use Rattle.std.specs.Prelude.{◌≡◌, ℕ, zero, suc, ◌+◌, ◌-◌, ◌*◌, Bool, true, false, List, [], ◌∷◌, length, Result, Ok, Err, nat_lt, nat_le, ◌==◌, ◌&&◌, if◌then◌else◌}
+use Rattle.formulas.specs.Tree.{implies, FormulaTree, bottom, holds, joined}
+use Rattle.sorted_terms.specs.Tree.{TermTree, boolean}
+use Rattle.proof_terms.specs.Tree.{ProofTree, hypothesis, lambda, application}
 use Rattle.cert_codec.specs.declared.stop.Stop.{Stop}
 use Rattle.cert_codec.specs.declared.stop.Stop.TheVariants as stops
 use Rattle.cert_codec.specs.Tree.{NodeTree, skip, CertificateTree}
@@ -79,11 +79,26 @@ number_at = choose is_last (one is_last) (both with_low (one goes_on) (high_at 3
 
 -- ---- trees
 
-unfoldable pub formula_at : List ℕ → Read FormulaTree
-formula_at =
+-- a term of at most that many levels
+unfoldable pub term_at : ℕ → List ℕ → Read TermTree
+term_at zero = λ bytes. Err bytes
+term_at (suc levels) =
+    choose (λ x. x == 0x17)
+    (after 0x17 (λ _. boolean false) (give {A = Unit {0}} tt))
+    (after 0x18 (λ _. boolean true) (give {A = Unit {0}} tt))
+
+abbrev pub implication : FormulaTree → FormulaTree → FormulaTree
+implication a b = joined implies a b
+
+-- a formula of at most that many levels
+unfoldable pub formula_at : ℕ → List ℕ → Read FormulaTree
+formula_at zero = λ bytes. Err bytes
+formula_at (suc levels) =
     choose (λ x. x == 0x30)
     (after 0x30 (λ _. bottom) (give {A = Unit {0}} tt))
-    (after 0x31 (λ t. holds t) (after 0x18 (λ _. boolean true) (give {A = Unit {0}} tt)))
+    (choose (λ x. x == 0x31)
+    (after 0x31 (λ t. holds t) (term_at levels))
+    (after 0x32 (λ a. a) (both implication (formula_at levels) (formula_at levels))))
 
 -- a proof of at most that many levels
 unfoldable pub proof_at : ℕ → List ℕ → Read ProofTree
@@ -91,7 +106,9 @@ proof_at zero = λ bytes. Err bytes
 proof_at (suc levels) =
     choose (λ x. x == 0x40)
     (after 0x40 hypothesis number_at)
-    (after 0x41 (λ p. p) (both lambda formula_at (proof_at levels)))
+    (choose (λ x. x == 0x41)
+    (after 0x41 (λ p. p) (both lambda (formula_at 256) (proof_at levels)))
+    (after 0x42 (λ p. p) (both application (proof_at levels) (proof_at levels))))
 
 unfoldable pub node_at : List ℕ → Read NodeTree
 node_at = after 0x60 skip (proof_at 2048)
@@ -108,7 +125,7 @@ same a = a
 unfoldable pub certificate_at : List ℕ → Read CertificateTree
 certificate_at =
     after 0x43 same (after 0x4B same (after 0x54 same (after 0x31 same (after 0 same (
-    both with_no_names formula_at (both paired formula_at node_at))))))
+    both with_no_names (formula_at 256) (both paired (formula_at 256) node_at))))))
 
 -- all of the bytes
 unfoldable pub whole_of : List ℕ → Result CertificateTree (List ℕ)

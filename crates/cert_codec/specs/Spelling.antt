@@ -1,5 +1,5 @@
 -- The one spelling of a certificate as bytes: trees in preorder, a tag and then its fields.
-use Rattle.std.specs.Prelude.{◌≡◌, ℕ, zero, suc, ◌+◌, ◌*◌, ◌/◌, ◌%◌, ◌^◌, ◌<◌, ◌≤◌, ℤ, pos, negsuc, Bool, true, false, List, [], ◌∷◌, ◌++◌, length, nat_lt, if◌then◌else◌}
+use Rattle.std.specs.Prelude.{◌≡◌, ℕ, zero, suc, ◌+◌, ◌*◌, ◌/◌, ◌%◌, ◌^◌, ◌<◌, ◌≤◌, ℤ, pos, negsuc, Bool, true, false, List, [], ◌∷◌, ◌++◌, length, nat_lt, ◌&&◌, if◌then◌else◌}
 use Rattle.std.specs.List.{flat_map}
 use Rattle.ck_base.specs.declared.decl.Sort.{Sort}
 use Rattle.ck_base.specs.declared.decl.Sort.TheVariants as sort
@@ -8,6 +8,7 @@ use Rattle.ck_base.specs.declared.decl.Kind.TheVariants as kind
 use Rattle.ck_base.specs.declared.decl.Decl.{Decl}
 use Rattle.sorted_terms.specs.Tree.{UnarySign, minus, denial, BinarySign, plus, difference, times, equal, less, at_most, both, either, TermTree, name, index, integer, boolean, unary, binary}
 use Rattle.formulas.specs.Tree.{Connective, implies, and_also, or_else, Quantifier, for_all, there_is, FormulaTree, bottom, holds, joined, quantified}
+use Rattle.formulas.specs.Sorts.{depth}
 use Rattle.proof_terms.specs.Tree.{ProofTree, hypothesis, lambda, application, general, special, pair, first, second, left_of, right_of, by_cases, pack, unpack, from_bottom, stable, reflexive, rewriting, an_axiom, induction, computing, ring_equal, hole}
 use Rattle.proof_terms.specs.Size.{proof_depth}
 use Rattle.cert_codec.specs.Tree.{NodeTree, skip, CertificateTree}
@@ -113,17 +114,23 @@ abbrev pub spell : CertificateTree → List ℕ
 spell c =
     magic ++ (length c.names ∷ (flat_map spell_decl c.names ++ (spell_formula c.pre ++ (spell_formula c.post ++ spell_node c.node))))
 
--- What is built of the form so far: `bottom` and `true` as formulas, hypotheses and lambdas as proofs. A
--- formula of this form has at most two levels.
+-- What is built of the form so far: the terms `true` and `false`, `bottom`, a term and an implication as
+-- formulas, and hypotheses, lambdas and applications as proofs.
+abbrev pub is_built_term : TermTree → Bool
+is_built_term (boolean b) = true
+is_built_term t = false
+
 abbrev pub is_built_formula : FormulaTree → Bool
 is_built_formula bottom = true
-is_built_formula (holds (boolean true)) = true
+is_built_formula (holds t) = is_built_term t
+is_built_formula (joined implies a b) = is_built_formula a && is_built_formula b
 is_built_formula a = false
 
 -- the tags are built, and every number is below 2^32
 abbrev pub IsBuiltProof : ProofTree → Type 0
 IsBuiltProof (hypothesis k) = k < 2 ^ 32
 IsBuiltProof (lambda a p) = (is_built_formula a ≡ true) × IsBuiltProof p
+IsBuiltProof (application p q) = IsBuiltProof p × IsBuiltProof q
 IsBuiltProof p = ⊥
 
 abbrev pub IsBuiltNode : NodeTree → Type 0
@@ -136,15 +143,27 @@ pub record IsBuilt (c : CertificateTree) : Type 0 where
   pub post : is_built_formula c.post ≡ true
   pub node : IsBuiltNode c.node
 
--- no proof of the node is deeper than 2,048 levels
+-- no formula in a proof of the built form is deeper than 256 levels
+abbrev pub HasShallowFormulas : ProofTree → Type 0
+HasShallowFormulas (lambda a p) = (depth a ≤ 256) × HasShallowFormulas p
+HasShallowFormulas (application p q) = HasShallowFormulas p × HasShallowFormulas q
+HasShallowFormulas p = Unit {0}
+
+-- no proof of the node is deeper than 2,048 levels, and no formula in it is deeper than 256
 abbrev pub IsShallowNode : NodeTree → Type 0
-IsShallowNode (skip p) = proof_depth p ≤ 2048
+IsShallowNode (skip p) = (proof_depth p ≤ 2048) × HasShallowFormulas p
+
+-- the bounds on depth are part of the form
+pub record IsShallow (c : CertificateTree) : Type 0 where
+  pub pre : depth c.pre ≤ 256
+  pub post : depth c.post ≤ 256
+  pub node : IsShallowNode c.node
 
 -- the bytes are the spelling of this certificate, within all bounds of the form
 pub record Spells (bytes : List ℕ) (c : CertificateTree) : Type 0 where
   pub spelled : spell c ≡ bytes
   pub built : IsBuilt c
-  pub shallow : IsShallowNode c.node
+  pub shallow : IsShallow c
 
 -- the bytes are the spelling of some certificate
 abbrev pub IsSpelling : List ℕ → Type 0

@@ -23,8 +23,8 @@ fn whole(alloc: Global, bytes: &[u8]) -> Result<RawCertificate, Stop>
     Ok(certificate)
 }
 
-/// The certificate that all of the bytes spell. Only `bottom` and `true` are read as formulas, hypotheses
-/// and lambdas as proofs, and no declared name.
+/// The certificate that all of the bytes spell. Only `bottom`, `true`, `false` and implications are read as
+/// formulas, hypotheses, lambdas and applications as proofs, and no declared name.
 pub fn decode(alloc: Global, bytes: &[u8]) -> Result<RawCertificate, DecodeFault>
     // The place of a fault is a `u32`.
     requires { length bytes.now < 2 ^ 32 }

@@ -9,6 +9,12 @@ const SPELLED: [u8; 15] = [
     0x43, 0x4B, 0x54, 0x31, 0x00, 0x31, 0x18, 0x31, 0x18, 0x60, 0x41, 0x31, 0x18, 0x40, 0x00,
 ];
 
+/// The bytes before the precondition.
+const BEFORE_PRE: usize = 5;
+
+/// The bytes before the postcondition.
+const BEFORE_POST: usize = 7;
+
 /// The bytes before the first tag of the node's proof.
 const BEFORE_PROOF: usize = 10;
 
@@ -25,7 +31,7 @@ fn place_of(alloc: Global, bytes: &[u8]) -> Result<Option<u32>, DecodeFault>
 
 #[test]
 fn places(rt: HostRuntime) -> Result<(), Fail> {
-    let table: [(&[u8], Option<u32>); 10] = [
+    let table: [(&[u8], Option<u32>); 11] = [
         (&SPELLED, None),
         (&[], Some(0)),
         (&SPELLED[..14], Some(14)),
@@ -34,7 +40,12 @@ fn places(rt: HostRuntime) -> Result<(), Fail> {
             Some(15),
         ),
         (b"CKT2\x00\x31\x18\x31\x18\x60\x41\x31\x18\x40\x00", Some(3)),
-        (b"CKT1\x00\x31\x17\x31\x18\x60\x41\x31\x18\x40\x00", Some(6)),
+        (b"CKT1\x00\x31\x19\x31\x18\x60\x41\x31\x18\x40\x00", Some(6)),
+        // The identity, applied to the hypothesis.
+        (
+            b"CKT1\x00\x31\x18\x31\x18\x60\x41\x31\x18\x42\x41\x31\x18\x40\x00\x40\x00",
+            None,
+        ),
         // A last byte that adds nothing, the largest number, one more than that, and a number with no end.
         (
             b"CKT1\x00\x31\x18\x31\x18\x60\x41\x31\x18\x40\x81\x00",
@@ -93,5 +104,31 @@ fn levels(rt: HostRuntime) -> Result<(), Fail> {
     assert!(rt; bytes.len() < 10_000);
     // The tag of the 2,049th level.
     assert_eq!(rt; place_of(rt.alloc(), &bytes)?, Some(10 + 2 * 2_048));
+    Ok(())
+}
+
+/// A certificate whose precondition has that many implications, each the left part of the one before.
+fn implications(alloc: Global, count: usize) -> Result<Vec<u8>, AllocError> {
+    let mut bytes = Vec::new(alloc);
+    bytes.extend_from_slice(&SPELLED[..BEFORE_PRE])?;
+    for _ in 0..count {
+        bytes.extend_from_slice(b"\x32")?;
+    }
+    for _ in 0..=count {
+        bytes.extend_from_slice(b"\x30")?;
+    }
+    bytes.extend_from_slice(&SPELLED[BEFORE_POST..])?;
+    Ok(bytes)
+}
+
+#[test]
+fn formula_levels(rt: HostRuntime) -> Result<(), Fail> {
+    let bytes = implications(rt.alloc(), 255)?;
+    assert!(rt; bytes.len() < 10_000);
+    assert_eq!(rt; place_of(rt.alloc(), &bytes)?, None);
+    let bytes = implications(rt.alloc(), 257)?;
+    assert!(rt; bytes.len() < 10_000);
+    // The tag of the 257th level.
+    assert_eq!(rt; place_of(rt.alloc(), &bytes)?, Some(5 + 256));
     Ok(())
 }
