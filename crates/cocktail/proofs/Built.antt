@@ -68,7 +68,7 @@ node_spelled : (node : NodeTree) → IsBuiltNode node → node_size node ≤ len
 node_spelled (skip p) h = omega (arith, proof_spelled p h)
 
 -- so a certificate has no more nodes than bytes
-pub certificate_spelled : (bytes : List ℕ) (c : CertificateTree) → Spells bytes c → size c.pre + size c.post + node_size c.node ≤ length bytes
+pub certificate_spelled : (bytes : List ℕ) (c : CertificateTree) → Spells bytes c → (size c.pre + size c.post) + node_size c.node ≤ length bytes
 certificate_spelled bytes c h =
     let spelled : length (spell c) ≡ length bytes = ap length h.spelled in
     omega (

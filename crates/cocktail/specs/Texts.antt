@@ -1,5 +1,5 @@
 -- Texts of formulas and programs, as far as they are built.
-use Rattle.std.specs.Prelude.{ℕ, Bool, ◌&&◌, true, false, nat_lt, List, [], ◌∷◌, ◌++◌, if◌then◌else◌, codes}
+use Rattle.std.specs.Prelude.{ℕ, Bool, true, false, nat_lt, List, [], ◌∷◌, ◌++◌, if◌then◌else◌, codes}
 use Rattle.sorted_terms.specs.Tree.{boolean}
 use Rattle.formulas.specs.Tree.{FormulaTree, bottom, holds, joined, implies}
 use Rattle.cert_codec.specs.Tree.{NodeTree, skip, CertificateTree}
@@ -11,13 +11,6 @@ at_level level wanted text = if nat_lt level wanted then codes "(" ++ (text ++ c
 abbrev pub is_bottom : FormulaTree → Bool
 is_bottom bottom = true
 is_bottom a = false
-
--- TEMPORARY
-abbrev pub is_built_formula : FormulaTree → Bool
-is_built_formula bottom = true
-is_built_formula (holds (boolean b)) = true
-is_built_formula (joined implies a b) = is_built_formula a && is_built_formula b
-is_built_formula a = false
 
 -- A formula where a level is wanted: 0 of an implication, 3 of a denial, which is an implication of
 -- `bottom`, and 11 of the rest.

@@ -6,8 +6,8 @@ ghost use Rattle.formulas.specs.Tree.{formula_tree, joined, implies};
 ghost use Rattle.proof_terms.specs.Tree.{proof_tree};
 ghost use Rattle.type_checker.specs.Typing.{Has};
 ghost use Rattle.cert_codec.specs.Tree.{certificate_tree, checked_tree, node_tree};
-ghost use Rattle.cert_codec.specs.Spelling.{IsBuiltProof, IsBuiltNode, IsShallowNode};
-ghost use Rattle.proof_terms.specs.Size.{proof_depth};
+ghost use Rattle.cert_codec.specs.Spelling.{IsBuiltProof, IsBuiltNode};
+ghost use Rattle.proof_terms.specs.Size.{proof_size};
 ghost use Rattle.cocktail.specs.Proves.{Proves};
 ghost use Rattle.cocktail.specs.Valid.{IsFileOf, IsSmall, node_size as node_size_of, HasPromise, Complains, IfMalformed, malformed, limits, unproved};
 ghost use Rattle.formulas.specs.Sorts.{size as size_of};
@@ -120,7 +120,7 @@ fn node_size(node: &Node) -> u32
 // Whether every obligation of the certificate's node has its term.
 fn is_proved(alloc: Global, c: &Certificate) -> Result<bool, NoMemory>
     requires built { IsBuiltNode (node_tree c.now.node) }
-    requires shallow { IsShallowNode (node_tree c.now.node) }
+    requires few { node_size_of (node_tree c.now.node) < 2 ^ 31 }
     ensures { IfOk result (λ yes. MatchBool yes (Proves c.now.decls (formula_tree c.now.pre) (node_tree c.now.node) (formula_tree c.now.post))
         (Proves c.now.decls (formula_tree c.now.pre) (node_tree c.now.node) (formula_tree c.now.post) → ⊥)) }
 {
@@ -130,7 +130,7 @@ fn is_proved(alloc: Global, c: &Certificate) -> Result<bool, NoMemory>
 }
 
 // Whether the proof has the formula that `a` implies `b`, in the empty context.
-#[tactic(auto, using(crate::proofs::Built::built_proof, crate::proofs::Built::nodes_are_levels, crate::proofs::Built::one_formula))]
+#[tactic(auto, using(crate::proofs::Built::built_proof, crate::proofs::Built::nodes_within_size, type_checker::proofs::Single::one_formula))]
 fn shows(
     alloc: Global,
     decls: &Decls,
@@ -139,7 +139,7 @@ fn shows(
     b: &Formula,
 ) -> Result<bool, NoMemory>
     requires built { IsBuiltProof (proof_tree p.now) }
-    requires shallow { proof_depth (proof_tree p.now) ≤ 2048 }
+    requires few { proof_size (proof_tree p.now) < 2 ^ 31 }
     ensures { IfOk result (λ yes. MatchBool yes (Has decls.now [] [] (proof_tree p.now) (joined implies (formula_tree a.now) (formula_tree b.now)))
         (Has decls.now [] [] (proof_tree p.now) (joined implies (formula_tree a.now) (formula_tree b.now)) → ⊥)) }
 {

@@ -3,7 +3,8 @@
 ghost use Rattle.std.specs.Prelude.{◌≡◌, ◌++◌, true, OnOk, IfOk, if◌then◌else◌, codes, []};
 ghost use Rattle.formulas.specs.Tree.{formula_tree};
 ghost use Rattle.cert_codec.specs.Tree.{checked_tree};
-ghost use Rattle.cocktail.specs.Texts.{is_built_formula, formula_text, triple_text, assertion_line, at_level};
+ghost use Rattle.cert_codec.specs.Spelling.{is_built_formula};
+ghost use Rattle.cocktail.specs.Texts.{formula_text, triple_text, assertion_line};
 ghost use Rattle.cocktail.specs.Texts as spec;
 
 use cert_codec::{Certificate, Node};
