@@ -1,11 +1,11 @@
 -- The walk gives a proof the formula that it has, and the place of its fault where it has none.
-use Rattle.std.proofs.Common.{◌≡◌, ℕ, zero, suc, ◌+◌, ◌≤◌, Bool, true, false, nat_le, max, if◌then◌else◌, List, [], ◌∷◌, ◌++◌, length, Option, Some, None, slice_get, Result, Ok, Err, IfErr, refl, sym, ◌∙◌, ap, subst, arith}
-use Rattle.std.proofs.lemmas.Bool.{and_parts, and_from, leb-true, le-leb}
+use Rattle.std.proofs.Common.{◌≡◌, ℕ, zero, suc, ◌+◌, Bool, true, false, if◌then◌else◌, List, [], ◌∷◌, ◌++◌, length, Option, Some, None, slice_get, Result, Ok, Err, IfErr, refl, sym, ◌∙◌, ap, subst, arith}
+use Rattle.std.proofs.lemmas.Bool.{and_parts, and_from}
 use Rattle.ck_base.specs.declared.decl.Decl.{Decl}
 use Rattle.ck_base.specs.declared.decl.Sort.{Sort}
 use Rattle.formulas.specs.declared.formula.Formula.{Formula}
 use Rattle.formulas.specs.Tree.{FormulaTree, joined, implies}
-use Rattle.formulas.specs.Sorts.{size, depth, fits, well_sorted}
+use Rattle.formulas.specs.Sorts.{fits, well_sorted}
 use Rattle.proof_terms.specs.Tree.{ProofTree, hypothesis, lambda, application}
 use Rattle.type_checker.specs.declared.untyped.Untyped.{Untyped}
 use Rattle.type_checker.specs.declared.untyped.Untyped.TheVariants.{At, NoMemory}

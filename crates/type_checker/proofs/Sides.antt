@@ -35,11 +35,12 @@ right_if true a b c d same e =
     cc (formula_is a c same, right)
 right_if false a b c d same e = absurd (cc)
 
--- the implication whose right side is given
+-- a formula that has a right side is an implication
 pub right_is : (f c d : FormulaTree) → right_of f c ≡ Some d → f ≡ joined implies c d
 right_is (joined implies a b) c d e = right_if (same_formula a c) a b c d refl e
 right_is f c d e = absurd (cc)
 
+-- what the walk counts of a right side by subtraction
 pub sizes_of : (f c d : FormulaTree) → right_of f c ≡ Some d → size f ≡ 1 + size c + size d
 sizes_of f c d e = rw (right_is f c d e) refl
 

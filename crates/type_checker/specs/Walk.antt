@@ -1,9 +1,9 @@
 -- What the walk of `type_of` computes on plain trees, with the number of the next proof node.
-use Rattle.std.specs.Prelude.{◌≡◌, ℕ, ◌+◌, true, if◌then◌else◌, List, ◌∷◌, Option, Some, None, slice_get, Result, Ok, Err}
+use Rattle.std.specs.Prelude.{◌≡◌, ℕ, ◌+◌, if◌then◌else◌, List, ◌∷◌, Option, Some, None, slice_get, Result, Ok, Err}
 use Rattle.ck_base.specs.declared.decl.Sort.{Sort}
 use Rattle.ck_base.specs.declared.decl.Decl.{Decl}
 use Rattle.formulas.specs.Tree.{FormulaTree, joined, implies}
-use Rattle.formulas.specs.Sorts.{size, depth, fits}
+use Rattle.formulas.specs.Sorts.{fits}
 use Rattle.proof_terms.specs.Tree.{ProofTree, hypothesis, lambda, application}
 use Rattle.type_checker.specs.declared.untyped.Untyped.{Untyped}
 use Rattle.type_checker.specs.declared.untyped.Untyped.TheVariants.{At, NoMemory}
@@ -56,12 +56,6 @@ walked names variables hypotheses (application p q) n =
     found_both (walked names variables hypotheses p n) (walked names variables hypotheses q (n + proof_nodes p))
 -- the other rules are not built yet
 walked names variables hypotheses p n = Err n
-
--- the size and depth that go with a formula are its own, and it fits
-pub record IsMeasured (typed : Typed) : Type 0 where
-  pub size_is : typed.size ≡ size (found_tree typed.found)
-  pub depth_is : typed.depth ≡ depth (found_tree typed.found)
-  pub fitting : fits (found_tree typed.found) ≡ true
 
 -- the code's answer is the walk's, but for want of memory
 abbrev pub Gives : Result (Typed × ℕ) Untyped → Walk → Type 0

@@ -1,34 +1,57 @@
 //! The hypotheses that a subproof stands under, without a copy of them.
 
-ghost use Rattle.std.specs.Prelude.{◌≡◌, slice_get};
+ghost use Rattle.std.specs.Prelude.{◌≡◌, IfSome, Some, slice_get};
 ghost use Rattle.std.specs.Option.{option_map};
 ghost use Rattle.formulas.specs.Tree.{formula_tree};
 ghost use Rattle.formulas.specs.Context.{hypotheses_of};
-ghost use Rattle.type_checker.specs.Scope.{hypotheses_under};
+ghost use Rattle.type_checker.specs.Found.{found_tree, IsMeasured};
+ghost use Rattle.type_checker.specs.Scope.{AreMeasured, fitting, hypotheses_under};
 
-use formulas::{Context, Formula};
+use crate::typed::{Found, Typed};
+use formulas::{Context, Formula, depth, fits, size};
 
-/// The hypotheses of a context, and on them those of the lambdas around.
+/// The hypotheses of a context, and on them those of the lambdas around, each with its size and depth.
 #[derive(Clone, Copy)]
 pub enum Scope<'f, 's> {
     Outer(&'f Context),
-    Under(&'f Formula, &'s Scope<'f, 's>),
+    Under(&'f Formula, u32, u32, &'s Scope<'f, 's>),
 }
 
-/// The hypothesis of that index, 0 the newest.
-pub fn hypothesis<'f>(scope: &Scope<'f, '_>, index: u32) -> Option<&'f Formula>
-    ensures { option_map (λ a. formula_tree a.now) result ≡ slice_get (hypotheses_under scope.now) index }
+/// The hypothesis of that index, 0 the newest, where it fits. That of a lambda is not counted again.
+pub fn hypothesis<'f>(scope: &Scope<'f, '_>, index: u32) -> Option<Typed<'f>>
+    requires { AreMeasured scope.now }
+    ensures found { option_map (λ t. found_tree t.found) result ≡ fitting (slice_get (hypotheses_under scope.now) index) }
+    ensures measured { IfSome result (λ t. IsMeasured t) }
 {
     match scope {
-        Scope::Outer(context) => newest(context, index),
-        Scope::Under(a, rest) => {
+        Scope::Outer(context) => counted(newest(context, index)?),
+        Scope::Under(a, size, depth, rest) => {
             if index == 0 {
-                Some(a)
+                Some(Typed {
+                    found: Found::Known(a),
+                    size: *size,
+                    depth: *depth,
+                })
             } else {
                 hypothesis(rest, index - 1)
             }
         }
     }
+}
+
+#[tactic(auto, unfolding(formulas::specs::Sorts::fits))]
+fn counted<'f>(a: &'f Formula) -> Option<Typed<'f>>
+    ensures found { option_map (λ t. found_tree t.found) result ≡ fitting (Some (formula_tree a.now)) }
+    ensures measured { IfSome result (λ t. IsMeasured t) }
+{
+    if !fits(a) {
+        return None;
+    }
+    Some(Typed {
+        found: Found::Known(a),
+        size: size(a),
+        depth: depth(a),
+    })
 }
 
 fn newest<'a>(context: &'a Context, index: u32) -> Option<&'a Formula>

@@ -7,10 +7,10 @@ ghost use Rattle.formulas.specs.Tree.{formula_tree, joined, implies};
 ghost use Rattle.formulas.specs.Sorts as sorts;
 ghost use Rattle.proof_terms.specs.Tree.{proof_tree};
 ghost use Rattle.type_checker.specs.Built.{IsBuilt};
-ghost use Rattle.type_checker.specs.Found.{found_tree};
+ghost use Rattle.type_checker.specs.Found.{found_tree, IsMeasured};
 ghost use Rattle.type_checker.specs.Place as place;
-ghost use Rattle.type_checker.specs.Scope.{hypotheses_under};
-ghost use Rattle.type_checker.specs.Walk.{Gives, IsMeasured, found, found_at, found_right, right_of, walked};
+ghost use Rattle.type_checker.specs.Scope.{AreMeasured, hypotheses_under};
+ghost use Rattle.type_checker.specs.Walk.{Gives, found, found_at, found_right, right_of, walked};
 
 use crate::nodes::nodes;
 use crate::scope::{Scope, hypothesis};
@@ -33,6 +33,7 @@ pub fn walk<'f>(
     n: u32,
 ) -> Result<(Typed<'f>, u32), Untyped>
     requires built { IsBuilt (proof_tree p.now) }
+    requires scope { AreMeasured scope.now }
     requires numbers { n + place.proof_nodes (proof_tree p.now) < 2 ^ 32 }
 
     ensures gives { Gives result (walked decls.now (sorts_in variables.now) (hypotheses_under scope.now) (proof_tree p.now) n) }
@@ -43,8 +44,10 @@ pub fn walk<'f>(
         Proof::Hyp(index) => used(scope, *index, n),
         Proof::Lam(a, part) => {
             if is_assumable(decls, variables, a) {
-                let (b, n) = walk(alloc, decls, variables, &Scope::Under(a, &*scope), part, n)?;
-                implication(alloc, a, b, n)
+                let (size, depth) = measured(a);
+                let scope = Scope::Under(a, size, depth, &*scope);
+                let (b, n) = walk(alloc, decls, variables, &scope, part, n)?;
+                implication(alloc, a, size, depth, b, n)
             } else {
                 Err(Untyped::At {
                     place: n + nodes(part),
@@ -69,35 +72,25 @@ fn is_assumable(decls: &Decls, variables: &Variables, a: &Formula) -> bool
 // A hypothesis of node `n`.
 #[inline(never)]
 fn used<'f>(scope: &Scope<'f, '_>, index: u32, n: u32) -> Result<(Typed<'f>, u32), Untyped>
-    requires { n + 1 < 2 ^ 32 }
+    requires scope { AreMeasured scope.now }
+    requires numbers { n + 1 < 2 ^ 32 }
     ensures gives { Gives result (found_at (slice_get (hypotheses_under scope.now) index) n) }
     ensures next { IfOk result (λ r. r.1 ≡ n + 1) }
     ensures measured { IfOk result (λ r. IsMeasured r.0) }
 {
     match hypothesis(scope, index) {
-        Some(a) => fitting(a, n),
+        Some(a) => Ok((a, n + 1)),
         None => Err(Untyped::At { place: n }),
     }
 }
 
 #[tactic(auto, unfolding(formulas::specs::Sorts::fits))]
-fn fitting<'f>(a: &'f Formula, n: u32) -> Result<(Typed<'f>, u32), Untyped>
-    requires { n + 1 < 2 ^ 32 }
-    ensures gives { Gives result (found (formula_tree a.now) n) }
-    ensures next { IfOk result (λ r. r.1 ≡ n + 1) }
-    ensures measured { IfOk result (λ r. IsMeasured r.0) }
+fn measured(a: &Formula) -> (u32, u32)
+    requires { sorts.fits (formula_tree a.now) ≡ true }
+    ensures size { result.0 ≡ sorts.size (formula_tree a.now) }
+    ensures depth { result.1 ≡ sorts.depth (formula_tree a.now) }
 {
-    if !fits(a) {
-        return Err(Untyped::At { place: n });
-    }
-    Ok((
-        Typed {
-            found: Found::Known(a),
-            size: size(a),
-            depth: depth(a),
-        },
-        n + 1,
-    ))
+    (size(a), depth(a))
 }
 
 // The implication of node `n`. Its size and depth come from those of its parts.
@@ -106,9 +99,13 @@ fn fitting<'f>(a: &'f Formula, n: u32) -> Result<(Typed<'f>, u32), Untyped>
 fn implication<'f>(
     alloc: Global,
     a: &'f Formula,
+    size: u32,
+    depth: u32,
     b: Typed<'f>,
     n: u32,
 ) -> Result<(Typed<'f>, u32), Untyped>
+    requires size { size ≡ sorts.size (formula_tree a.now) }
+    requires depth { depth ≡ sorts.depth (formula_tree a.now) }
     requires assumed { sorts.fits (formula_tree a.now) ≡ true }
     requires measured { IsMeasured b }
     requires numbers { n + 1 < 2 ^ 32 }
@@ -116,8 +113,8 @@ fn implication<'f>(
     ensures next { IfOk result (λ r. r.1 ≡ n + 1) }
     ensures measured { IfOk result (λ r. IsMeasured r.0) }
 {
-    let size = 1 + size(a) + b.size;
-    let depth = 1 + depth(a).max(b.depth);
+    let size = 1 + size + b.size;
+    let depth = 1 + depth.max(b.depth);
     if size > FORMULA_NODES || depth > FORMULA_DEPTH {
         return Err(Untyped::At { place: n });
     }

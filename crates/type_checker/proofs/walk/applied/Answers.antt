@@ -1,4 +1,4 @@
-use Rattle.std.proofs.Common.{◌≡◌, ◌+◌, ◌-◌, sym, ◌∙◌, arith}
+use Rattle.std.proofs.Common.{◌≡◌, ◌-◌, sym, arith}
 use Rattle.formulas.specs.Sorts.{size}
 use Rattle.type_checker.specs.Found.{found_tree}
 use Rattle.type_checker.proofs.Sides.{sizes_of, fits_right_of}
