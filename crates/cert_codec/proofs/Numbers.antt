@@ -156,6 +156,20 @@ spelled : (n : ℕ) → IsNumber n → spell_number n ≡ number_bytes 4 n
 unfolding spell_number
 spelled n lt = fewer 4 18 n (omega arith) (omega (arith, lt))
 
+-- a number as its first byte and the rest, for the writer
+pub last_digit : (n : ℕ) → n < 128 → spell_number n ≡ n ∷ []
+unfolding spell_number
+last_digit n lt = short_number 18 n lt
+
+pub next_digit : (n : ℕ) → n < 2 ^ 32 → 128 ≤ n → spell_number n ≡ (128 + n % 128) ∷ spell_number (n / 128)
+unfolding spell_number number_bytes
+next_digit n lt le =
+    let d = from_digits n le in
+    let large : ltb n 128 ≡ false = le-ltb n 128 le in
+    let high : n / 128 < 128 ^ 5 = omega (arith, lt) in
+    let tail : number_bytes 17 (n / 128) ≡ number_bytes 18 (n / 128) = fewer 4 17 (n / 128) (omega arith) high ∙ sym (fewer 4 18 (n / 128) (omega arith) high) in
+    rw large (ap (λ w. (128 + n % 128) ∷ w) tail)
+
 number_to : (n : ℕ) → (is_last n ≡ true) ⊎ AreDigits 3 n → IsNumber n
 number_to n (inl h) = let p = ltb-true n 128 h in omega (arith, p)
 number_to n (inr h) =

@@ -12,10 +12,12 @@ mod parts;
 mod reading;
 mod stop;
 mod tags;
+mod writing;
 
 pub use certificate::{Certificate, Node, RawCertificate};
 pub use fault::DecodeFault;
 pub use reading::decode;
+pub use writing::encode;
 
 #[cfg(test)]
 mod tests;

@@ -10,15 +10,14 @@ ghost use Rattle.cert_codec.specs.Reading.{Gives, one, high_at, number_at, term_
 
 use crate::certificate::{Node, RawCertificate};
 use crate::stop::{Stop, malformed};
-use crate::tags::{APP, BOTTOM, FALSE, HOLDS, HYP, IMP, LAM, MAGIC, NO_NAMES, SKIP, TRUE};
+use crate::tags::{
+    APP, BOTTOM, FALSE, HIGH_BIT, HOLDS, HYP, IMP, LAM, MAGIC, NO_NAMES, SKIP, TRUE,
+};
 use ck_base::List;
 use formulas::Formula;
 use proof_terms::Proof;
 use sorted_terms::Term;
 use std::alloc::Global;
-
-/// All bytes of a number but the last have this bit.
-const HIGH_BIT: u8 = 0x80;
 
 /// At most so many bytes follow the second one of a number.
 const MORE_DIGITS: u32 = 3;

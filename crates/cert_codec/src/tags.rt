@@ -32,3 +32,6 @@ pub(crate) const SKIP: u8 = 0x60;
 
 /// The count of declared names.
 pub(crate) const NO_NAMES: u8 = 0;
+
+/// All bytes of a number but the last have this bit.
+pub(crate) const HIGH_BIT: u8 = 0x80;

@@ -1,6 +1,9 @@
 ghost use Rattle.std.specs.Prelude.{◌<◌, ◌^◌, length};
+ghost use Rattle.cert_codec.specs.Tree.{certificate_tree};
+ghost use Rattle.cert_codec.specs.Spelling.{IsBuilt};
 
 use super::*;
+use ck_base::{Decls, List, NoMemory};
 use std::alloc::{AllocError, Global};
 use std::test::*;
 
@@ -130,5 +133,35 @@ fn formula_levels(rt: HostRuntime) -> Result<(), Fail> {
     assert!(rt; bytes.len() < 10_000);
     // The tag of the 257th level.
     assert_eq!(rt; place_of(rt.alloc(), &bytes)?, Some(5 + 256));
+    Ok(())
+}
+
+fn encoded(alloc: Global, raw: RawCertificate) -> Result<List<u8>, NoMemory>
+    requires { IsBuilt (certificate_tree raw) }
+{
+    let c = Certificate {
+        decls: Decls::new(alloc),
+        pre: raw.pre,
+        post: raw.post,
+        node: raw.node,
+    };
+    encode(alloc, &c)
+}
+
+/// What is decoded is encoded as the same bytes: at the greatest depth, and with all tags and a number of
+/// five bytes.
+#[test]
+fn encoded_again(rt: HostRuntime) -> Result<(), Fail> {
+    let deep = lambdas(rt.alloc(), 2_047)?;
+    let table: [&[u8]; 2] = [
+        &deep,
+        b"CKT1\x00\x31\x18\x32\x30\x31\x17\x60\x41\x31\x18\x42\x40\xFF\xFF\xFF\xFF\x0F\x40\x00",
+    ];
+    for bytes in table {
+        assert!(rt; bytes.len() < 10_000);
+        let raw = decode(rt.alloc(), bytes)?;
+        let again = encoded(rt.alloc(), raw)?;
+        assert_eq!(rt; again.as_slice(), bytes);
+    }
     Ok(())
 }
