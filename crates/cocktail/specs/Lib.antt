@@ -5,3 +5,4 @@ pub mod Valid
 pub mod Texts
 pub mod Commands
 pub mod Laws
+pub mod Adapters

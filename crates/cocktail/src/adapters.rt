@@ -1,12 +1,13 @@
 //! The real outside: files and standard output. They keep the counts of their traits, and tell nothing of
 //! names or content.
 
-ghost use Rattle.std.specs.Prelude.{◌≤◌, None, is_some};
-ghost use Rattle.ck_base.specs.Outside.{Rose};
+ghost use Rattle.std.specs.Prelude.{◌≡◌, ◌≤◌, None, is_some};
+ghost use Rattle.ck_base.specs.Outside.{Rose, fresh};
+ghost use Rattle.cocktail.specs.Adapters.{stage_of};
 
-use ck_base::{Failed, Origin, Sink};
+use ck_base::{Failed, Origin, Sink, Target};
 use std::fs::File;
-use std::io::Read;
+use std::io::{Read, Write};
 use std::rt::Files;
 
 // A call failed: the count of faults goes up by one, or stays at its last value.
@@ -64,6 +65,68 @@ impl Origin for FileOrigin<'_> {
         match file.read(buf) {
             Ok(count) => Ok(count),
             Err(_) => Err(fault(&mut self.faults)),
+        }
+    }
+}
+
+/// How far a target is: nothing was created, its file is open, or a creation failed.
+#[derive(Drop)]
+enum Progress {
+    Fresh,
+    Begun(File),
+    Spent,
+}
+
+/// One file of the file system, which is written from its beginning.
+#[derive(Drop)]
+pub struct FileTarget<'a> {
+    rt: &'a HostRuntime,
+    progress: Progress,
+    faults: u64,
+}
+
+impl<'a> FileTarget<'a> {
+    /// Nothing is created yet.
+    pub fn new(rt: &'a HostRuntime) -> FileTarget<'a>
+        ensures { stage_of result.progress ≡ fresh }
+    {
+        FileTarget {
+            rt,
+            progress: Progress::Fresh,
+            faults: 0,
+        }
+    }
+}
+
+impl Target for FileTarget<'_> {
+    ghost takes = { λ _. None };
+
+    ghost written = { λ _. None };
+
+    ghost stage = { λ t. stage_of t.progress };
+
+    ghost faults = { λ t. t.faults };
+
+    fn create(&mut self, name: &str) -> Result<(), Failed> {
+        match File::create(self.rt, name) {
+            Ok(file) => {
+                self.progress = Progress::Begun(file);
+                Ok(())
+            }
+            Err(_) => {
+                self.progress = Progress::Spent;
+                Err(fault(&mut self.faults))
+            }
+        }
+    }
+
+    fn put(&mut self, bytes: &[u8]) -> Result<usize, Failed> {
+        let Progress::Begun(file) = &mut self.progress else {
+            unreachable!()
+        };
+        match file.write(bytes) {
+            Ok(taken) if taken > 0 => Ok(taken),
+            _ => Err(fault(&mut self.faults)),
         }
     }
 }

@@ -18,8 +18,7 @@ mod texts;
 mod top;
 mod words;
 
-use adapters::{FileOrigin, StdSink};
-use ck_base::{List, MemTarget, Text};
+use adapters::{FileOrigin, FileTarget, StdSink};
 use status::Status;
 use std::process::ExitCode;
 use std::{env, io};
@@ -42,15 +41,12 @@ fn words_of(rt: &HostRuntime) -> io::Result<Vec<String>> {
     Ok(env::args(rt)?.skip(1).collect(rt.alloc())?)
 }
 
-// No command writes a file yet, so the target is one in memory.
 fn run_words(rt: &HostRuntime, words: &[String]) -> Status {
-    let alloc = rt.alloc();
-    let mut target = MemTarget::new(alloc, Text::new(alloc), 1, List::new(alloc));
     cocktail(
-        alloc,
+        rt.alloc(),
         words,
         &mut FileOrigin::new(rt),
-        &mut target,
+        &mut FileTarget::new(rt),
         &mut StdSink::new(rt),
     )
 }

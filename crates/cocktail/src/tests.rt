@@ -1,9 +1,11 @@
 //! The worked rows of the commands over the outside in memory, and one test of each real adapter.
 
-use crate::adapters::{FileOrigin, StdSink};
+use crate::adapters::{FileOrigin, FileTarget, StdSink};
 use crate::status::Status;
 use crate::top::cocktail;
-use ck_base::{List, MemOrigin, MemSink, MemTarget, NamedBytes, NoMemory, Origin, Sink, Text};
+use ck_base::{
+    List, MemOrigin, MemSink, MemTarget, NamedBytes, NoMemory, Origin, Sink, Target, Text,
+};
 use std::alloc::Global;
 use std::fs;
 use std::test::Fail;
@@ -226,6 +228,17 @@ fn a_real_file(rt: HostRuntime) -> Result<(), Fail> {
     assert_eq!(rt; &buf[..15], SKIP.as_slice());
     assert!(rt; origin.read(&mut buf) == Ok(0));
     fs::remove_file(&rt, "a_real_file.ckt")?;
+    Ok(())
+}
+
+#[test]
+fn a_real_target(rt: HostRuntime) -> Result<(), Fail> {
+    let mut target = FileTarget::new(&rt);
+    assert!(rt; target.create("a_real_target.ckt").is_ok());
+    assert!(rt; target.put(&SKIP) == Ok(15));
+    let written = fs::read(&rt, "a_real_target.ckt")?;
+    assert_eq!(rt; written.as_slice(), SKIP.as_slice());
+    fs::remove_file(&rt, "a_real_target.ckt")?;
     Ok(())
 }
 
