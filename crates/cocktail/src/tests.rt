@@ -93,22 +93,18 @@ const APPLICATION: [u8; 21] = [
     0x18, 0x40, 0x00, 0x40, 0x00,
 ];
 
-/// The bytes of a formula: a tree of implications with that many levels above its leaves, all `bottom`.
-fn add_tree(bytes: &mut Vec<u8>, levels: u32) -> Result<(), NoMemory> {
-    if levels == 0 {
-        bytes.push(0x30)?;
-        return Ok(());
-    }
-    bytes.push(0x32)?;
-    add_tree(bytes, levels - 1)?;
-    add_tree(bytes, levels - 1)
-}
-
-/// `{ true } skip { Q }` where Q is an implication of 8,193 leaves, that is of 16,385 nodes.
+/// `{ true } skip { Q }` where Q is an implication of 8,193 leaves `bottom`, that is of 16,385 nodes.
 fn too_large(alloc: Global) -> Result<Vec<u8>, NoMemory> {
+    let mut tree = Vec::from_slice(alloc, &[0x30])?;
+    for _level in 0..13u8 {
+        let mut joined = Vec::from_slice(alloc, &[0x32])?;
+        joined.extend_from_slice(&tree)?;
+        joined.extend_from_slice(&tree)?;
+        tree = joined;
+    }
     let mut bytes = Vec::from_slice(alloc, &SKIP[..7])?;
     bytes.extend_from_slice(&[0x32, 0x30])?;
-    add_tree(&mut bytes, 13)?;
+    bytes.extend_from_slice(&tree)?;
     bytes.extend_from_slice(&SKIP[9..])?;
     Ok(bytes)
 }
