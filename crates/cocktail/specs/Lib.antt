@@ -2,7 +2,6 @@ pub mod Programs
 pub mod Runs
 pub mod Proves
 pub mod Valid
-pub mod Texts
 pub mod Commands
 pub mod Laws
 pub mod Adapters

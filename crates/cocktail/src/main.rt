@@ -14,7 +14,6 @@ mod reading;
 mod status;
 #[cfg(test)]
 mod tests;
-mod texts;
 mod top;
 mod words;
 

@@ -4,16 +4,13 @@ ghost use Rattle.std.specs.Prelude.{◌≡◌, ◌≢◌, ◌+◌, ◌<◌, ◌�
 ghost use Rattle.std.specs.String.{string_bytes};
 ghost use Rattle.std.specs.Io.KnownBytes.{Appends};
 ghost use Rattle.ck_base.specs.Outside.{Rose, fresh};
-ghost use Rattle.cert_codec.specs.Tree.{CertificateTree};
-ghost use Rattle.cocktail.specs.Valid.{Valid, IsFileOf, HasPromise, Complaint, Complains};
-ghost use Rattle.cocktail.specs.Texts.{triple_text};
+ghost use Rattle.cocktail.specs.Valid.{Valid, HasPromise, Complaint, Complains};
 ghost use Rattle.cocktail.specs.Commands.{checked_file, Reads, FindsNone, Prints, line, complaint_line};
 
 use crate::cert_check::{CheckFault, check};
 use crate::printing::{print, reported};
 use crate::reading::{ReadFault, read_whole};
 use crate::status::Status;
-use crate::texts::triple;
 use crate::words::checked_file;
 use ck_base::limits::CERTIFICATE_BYTES;
 use ck_base::{Origin, Sink, Target};
@@ -31,11 +28,11 @@ pub fn cocktail<I: Origin, T: Target, O: Sink>(
     requires { T.stage target.old ≡ fresh }
 
     // The file was read to its end and is valid, the program of such a file keeps its promise over every run,
-    // and `valid` and the triple were printed.
-    ensures done { result ≡ Status.Done → (bytes : List ℕ) × (c : CertificateTree)
+    // and `valid` was printed.
+    ensures done { result ≡ Status.Done → (bytes : List ℕ)
         × Reads (map string_bytes words.now) (I.files input.old) (I.left input.new) bytes []
-        × IsFileOf c bytes × HasPromise bytes
-        × Appends (O.gained out.old) (O.gained out.new) (triple_text c) }
+        × Valid bytes × HasPromise bytes
+        × Appends (O.gained out.old) (O.gained out.new) (line (codes "valid")) }
 
     // The file was read to its end within the limit and is not valid, for the reason that was printed.
     ensures refused { result ≡ Status.Refused → (bytes : List ℕ)
@@ -54,10 +51,10 @@ pub fn cocktail<I: Origin, T: Target, O: Sink>(
         Rose (I.faults input.old) (I.faults input.new) ⊎ FindsNone (map string_bytes words.now) (I.files input.old) }
 
     // The file was read to its end and is valid, and a put on the sink failed.
-    ensures out_fault { result ≡ Status.OutFault → (bytes : List ℕ) × (c : CertificateTree)
+    ensures out_fault { result ≡ Status.OutFault → (bytes : List ℕ)
         × Reads (map string_bytes words.now) (I.files input.old) (I.left input.new) bytes []
-        × IsFileOf c bytes × Rose (O.faults out.old) (O.faults out.new)
-        × Prints (O.gained out.old) (O.gained out.new) (O.faults out.old) (O.faults out.new) (triple_text c) }
+        × Valid bytes × Rose (O.faults out.old) (O.faults out.new)
+        × Prints (O.gained out.old) (O.gained out.new) (O.faults out.old) (O.faults out.new) (line (codes "valid")) }
 
     // The file has more bytes than the limit, and one byte past the limit was read.
     ensures too_long { result ≡ Status.TooLong → (bytes : List ℕ)
@@ -83,12 +80,9 @@ pub fn cocktail<I: Origin, T: Target, O: Sink>(
         Err(ReadFault::NoMemory) => return Status::NoMemory,
     };
     match check(alloc, bytes.as_slice()) {
-        Ok(certificate) => match triple(alloc, &certificate) {
-            Ok(text) => match print(out, text.as_bytes()) {
-                Ok(()) => Status::Done,
-                Err(_) => Status::OutFault,
-            },
-            Err(_) => Status::NoMemory,
+        Ok(_) => match print(out, b"valid\n") {
+            Ok(()) => Status::Done,
+            Err(_) => Status::OutFault,
         },
         Err(CheckFault::Malformed { .. }) => reported(out, b"refused Malformed\n", Status::Refused),
         Err(CheckFault::Limits) => reported(out, b"refused Limits\n", Status::Refused),
