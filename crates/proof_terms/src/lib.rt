@@ -7,7 +7,7 @@
 pub mod measures;
 pub mod proof;
 
-pub use measures::size;
+pub use measures::{depth, size};
 pub use proof::Proof;
 
 #[cfg(test)]

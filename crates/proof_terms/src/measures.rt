@@ -27,3 +27,34 @@ pub fn size(p: &Proof) -> u32
         Proof::Cases(p, q, r) => 1 + size(p) + size(q) + size(r),
     }
 }
+
+/// The number of levels: of proof nodes on the longest path from the root. It takes no memory.
+#[tactic(auto, using(crate::proofs::Sizes::depth_within_size))]
+pub fn depth(p: &Proof) -> u32
+    requires { proof_size (proof_tree p.now) < 2 ^ 32 }
+    ensures { result ≡ proof_depth (proof_tree p.now) }
+{
+    match p {
+        Proof::Hyp(_)
+        | Proof::Refl(_)
+        | Proof::Axiom(_)
+        | Proof::Induct(_)
+        | Proof::Compute(_)
+        | Proof::Ring(_, _)
+        | Proof::Hole(_) => 1,
+        Proof::Lam(_, p)
+        | Proof::Gen(_, p)
+        | Proof::Inst(p, _)
+        | Proof::First(p)
+        | Proof::Second(p)
+        | Proof::LeftOf(_, p)
+        | Proof::RightOf(_, p)
+        | Proof::Pack(_, _, _, p)
+        | Proof::Absurd(_, p)
+        | Proof::Stable(p) => 1 + depth(p),
+        Proof::App(p, q) | Proof::Pair(p, q) | Proof::Unpack(p, q) | Proof::Rewrite(_, p, q) => {
+            1 + depth(p).max(depth(q))
+        }
+        Proof::Cases(p, q, r) => 1 + depth(p).max(depth(q).max(depth(r))),
+    }
+}

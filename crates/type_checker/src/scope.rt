@@ -30,7 +30,7 @@ pub fn hypothesis<'f>(scope: &Scope<'f, '_>, index: u32) -> Option<Typed<'f>>
                 Some(Typed {
                     found: Found::Known(a),
                     size: *size,
-                    depth: *depth,
+                    depth: Some(*depth),
                 })
             } else {
                 hypothesis(rest, index - 1)
@@ -50,7 +50,7 @@ fn counted<'f>(a: &'f Formula) -> Option<Typed<'f>>
     Some(Typed {
         found: Found::Known(a),
         size: size(a),
-        depth: depth(a),
+        depth: Some(depth(a)),
     })
 }
 

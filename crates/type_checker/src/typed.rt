@@ -18,12 +18,13 @@ pub enum Found<'f> {
     Implies(&'f Formula, Box<Found<'f>>),
 }
 
-/// The formula of a subproof. Its size and depth go with it, so that no lambda counts it again.
+/// The formula of a subproof. Its size and depth go with it, so that no lambda counts it again. The depth
+/// of an application's formula is counted only where a lambda stands over it.
 #[derive(Drop)]
 pub struct Typed<'f> {
     pub found: Found<'f>,
     pub size: u32,
-    pub depth: u32,
+    pub depth: Option<u32>,
 }
 
 /// The found formula as one of its own.

@@ -113,12 +113,17 @@ fn implication<'f>(
     ensures next { IfOk result (λ r. r.1 ≡ n + 1) }
     ensures measured { IfOk result (λ r. IsMeasured r.0) }
 {
+    let below = match b.depth {
+        Some(depth) => depth,
+        None => levels(&b.found),
+    };
     let size = 1 + size + b.size;
-    let depth = 1 + depth.max(b.depth);
+    let depth = 1 + depth.max(below);
     if size > FORMULA_NODES || depth > FORMULA_DEPTH {
         return Err(Untyped::At { place: n });
     }
     let found = implies(alloc, a, b.found)?;
+    let depth = Some(depth);
     Ok((Typed { found, size, depth }, n + 1))
 }
 
@@ -142,7 +147,7 @@ fn applied<'f>(f: Typed<'f>, a: Typed<'f>, n: u32) -> Result<(Typed<'f>, u32), U
         return Err(Untyped::At { place: n });
     };
     let size = f.size - a.size - 1;
-    let depth = levels(&found);
+    let depth = None;
     Ok((Typed { found, size, depth }, n + 1))
 }
 

@@ -20,6 +20,6 @@ returns-clause-measured c =
     let few : c.args.f.size - c.args.a.size - 1 ≡ size (found_tree c.in-Some.found) = omega (arith, sum, c.requires.implication.size_is, c.requires.argument.size_is) in
     record {
       size_is = few;
-      depth_is = c.levels-depth.ensures;
+      depth_is = tt;
       fitting = fits_right_of (found_tree c.args.f.found) (found_tree c.args.a.found) (found_tree c.in-Some.found) (sym c.in-Some.ensures) c.requires.implication.fitting;
     }
