@@ -36,7 +36,7 @@ nodes_within_size (lambda a p) h = omega (arith, nodes_within_size p h.1)
 nodes_within_size (application p q) h = omega (arith, nodes_within_size p h.0, nodes_within_size q h.1)
 nodes_within_size p h = absurd h
 
-sorted_formula : (names : List Decl) (variables : List Sort) (a : FormulaTree) → is_built_formula a ≡ true → well_sorted names variables a ≡ true
+pub sorted_formula : (names : List Decl) (variables : List Sort) (a : FormulaTree) → is_built_formula a ≡ true → well_sorted names variables a ≡ true
 sorted_formula names variables bottom e = refl
 sorted_formula names variables (holds (boolean b)) e = refl
 sorted_formula names variables (holds t) e = absurd (cc)
@@ -47,7 +47,7 @@ sorted_formula names variables (joined c a b) e = absurd (cc)
 sorted_formula names variables (quantified q s a) e = absurd (cc)
 
 -- every node has a byte of its own
-formula_spelled : (a : FormulaTree) → is_built_formula a ≡ true → size a ≤ length (spell_formula a)
+pub formula_spelled : (a : FormulaTree) → is_built_formula a ≡ true → size a ≤ length (spell_formula a)
 formula_spelled bottom e = omega arith
 formula_spelled (holds (boolean true)) e = omega arith
 formula_spelled (holds (boolean false)) e = omega arith

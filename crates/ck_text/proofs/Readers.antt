@@ -372,11 +372,11 @@ numbered_again k (suc levels) hypotheses p rest nested e = by (nat_lt k hypothes
   by false e = absurd (cc)
 
 -- a mapped option that is there
-mapped : {A B : Type 0} (f : A → B) (o : Option A) (b : B) → option_map f o ≡ Some b → (a : A) × (o ≡ Some a) × (f a ≡ b)
+pub mapped : {A B : Type 0} (f : A → B) (o : Option A) (b : B) → option_map f o ≡ Some b → (a : A) × (o ≡ Some a) × (f a ≡ b)
 mapped f (Some a) b e = (a, refl, let same : f a ≡ b = cc in same)
 mapped f None b e = absurd (cc)
 
-both_there : (o q : Option ProofTree) (p : ProofTree) → both_applied o q ≡ Some p → (f : ProofTree) × (a : ProofTree) × (o ≡ Some f) × (q ≡ Some a) × (application f a ≡ p)
+pub both_there : (o q : Option ProofTree) (p : ProofTree) → both_applied o q ≡ Some p → (f : ProofTree) × (a : ProofTree) × (o ≡ Some f) × (q ≡ Some a) × (application f a ≡ p)
 both_there (Some f) (Some a) p e = (f, a, refl, refl, let same : application f a ≡ p = cc in same)
 both_there (Some f) None p e = absurd (cc)
 both_there None q p e = absurd (cc)

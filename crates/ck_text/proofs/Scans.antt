@@ -6,13 +6,13 @@ use Rattle.std.proofs.lemmas.Bool.Decides.{eqb_tells}
 use Rattle.std.proofs.lemmas.List.{take_all}
 use Rattle.ck_base.specs.Names.{is_digit}
 use Rattle.ck_text.specs.declared.token.Token.{Token}
-use Rattle.ck_text.specs.Tokens.{count_while, decimal, is_blank, first_token, scan}
+use Rattle.ck_text.specs.Tokens.{count_while, value_from, is_blank, first_token, scan}
 use Rattle.ck_text.specs.Lines.{is_inside, without_return, last_line, lines_from, lines_of}
 
 -- more digits never make a number smaller
-pub decimal_grows : (value : ℕ) (digits : List ℕ) → value ≤ decimal value digits
-decimal_grows value [] = omega arith
-decimal_grows value (b ∷ digits) = omega (arith, decimal_grows (10 * value + (b - 48)) digits)
+pub value_grows : (value : ℕ) (digits : List ℕ) → value ≤ value_from value digits
+value_grows value [] = omega arith
+value_grows value (b ∷ digits) = omega (arith, value_grows (10 * value + (b - 48)) digits)
 
 -- a number that is too large stays so
 pub too_large : (n : ℕ) → 2 ^ 32 ≤ n → (if nat_lt n (2 ^ 32) then Some n else None) ≡ None
@@ -50,13 +50,13 @@ pub digits_front : (bytes : List ℕ) (first : ℕ) (more : List ℕ) (taken : �
 digits_front bytes first more taken whole digit count = rw (whole, count, digit, all_counted is_digit more) refl
 
 -- a number does not fit where it does not with one digit more
-pub step_large : (value : ℕ) (rest : List ℕ) → 1 ≤ length rest → 2 ^ 32 ≤ 10 * value + (get_or rest 0 0 - 48) → 2 ^ 32 ≤ decimal value rest
+pub step_large : (value : ℕ) (rest : List ℕ) → 1 ≤ length rest → 2 ^ 32 ≤ 10 * value + (get_or rest 0 0 - 48) → 2 ^ 32 ≤ value_from value rest
 step_large value [] some large = absurd (omega (arith, some))
-step_large value (b ∷ digits) some large = omega (arith, large, decimal_grows (10 * value + (b - 48)) digits)
+step_large value (b ∷ digits) some large = omega (arith, large, value_grows (10 * value + (b - 48)) digits)
 
-pub decimal_ends : (value : ℕ) (rest : List ℕ) → length rest < 1 → decimal value rest ≡ value
-decimal_ends value [] none = refl
-decimal_ends value (b ∷ digits) none = absurd (omega (arith, none))
+pub value_ends : (value : ℕ) (rest : List ℕ) → length rest < 1 → value_from value rest ≡ value
+value_ends value [] none = refl
+value_ends value (b ∷ digits) none = absurd (omega (arith, none))
 
 pushed : (b : ℕ) (t : Bool) (x y : List ℕ) → b ∷ (if t then x else y) ≡ (if t then b ∷ x else b ∷ y)
 pushed b true x y = refl

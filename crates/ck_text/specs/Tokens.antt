@@ -31,13 +31,13 @@ word_token word =
     else token.Other
 
 -- the number of a value and the digits after it
-abbrev pub decimal : ℕ → List ℕ → ℕ
-decimal value [] = value
-decimal value (b ∷ digits) = decimal (10 * value + (b - 48)) digits
+abbrev pub value_from : ℕ → List ℕ → ℕ
+value_from value [] = value
+value_from value (b ∷ digits) = value_from (10 * value + (b - 48)) digits
 
 -- a number of decimal digits, where it is below 2^32
 abbrev pub number_token : List ℕ → Token
-number_token digits = if nat_lt (decimal 0 digits) (2 ^ 32) then token.Number (decimal 0 digits) else token.Other
+number_token digits = if nat_lt (value_from 0 digits) (2 ^ 32) then token.Number (value_from 0 digits) else token.Other
 
 -- a sign of one byte
 abbrev pub sign_token : ℕ → Token

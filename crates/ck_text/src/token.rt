@@ -3,7 +3,7 @@
 ghost use Rattle.std.specs.Prelude.{◌≡◌, ◌<◌, ◌≤◌, ◌^◌, suc, true, nat_lt, if◌then◌else◌, Some, None, ◌∷◌, length, take, drop, IfOk};
 ghost use Rattle.std.specs.List.{list_all};
 ghost use Rattle.ck_base.specs.Names.{is_letter, is_digit, is_name_byte};
-ghost use Rattle.ck_text.specs.Tokens.{is_blank, begins_word, count_while, decimal, word_token, number_token, sign_token, first_token as first_token_of, scan};
+ghost use Rattle.ck_text.specs.Tokens.{is_blank, begins_word, count_while, value_from, word_token, number_token, sign_token, first_token as first_token_of, scan};
 
 use ck_base::{List, NoMemory};
 use std::alloc::Global;
@@ -130,7 +130,7 @@ fn number(digits: &[u8]) -> Token
 // The value of the digits, where it is below 2^32.
 fn value(digits: &[u8]) -> Option<u32>
     requires { list_all is_digit digits.now ≡ true }
-    ensures { result ≡ (if nat_lt (decimal 0 digits.now) (2 ^ 32) then Some (decimal 0 digits.now) else None) }
+    ensures { result ≡ (if nat_lt (value_from 0 digits.now) (2 ^ 32) then Some (value_from 0 digits.now) else None) }
 {
     let mut value: u32 = 0;
     let mut rest = digits;

@@ -1,6 +1,6 @@
 use Rattle.std.proofs.Common.{◌≡◌, ℕ, ◌+◌, ◌-◌, ◌*◌, ◌^◌, ◌<◌, ◌≤◌, Some, sym, ap, subst, ◌∙◌, arith, get_or}
-use Rattle.ck_text.specs.Tokens.{decimal}
-use Rattle.ck_text.proofs.Scans.{too_large, small_enough, step_large, decimal_ends}
+use Rattle.ck_text.specs.Tokens.{value_from}
+use Rattle.ck_text.proofs.Scans.{too_large, small_enough, step_large, value_ends}
 use Rattle.ck_text.proofs.token.value.Goals as goal
 
 pub returns-in_err-checked_mul : goal.returns-in_err-checked_mul
@@ -15,5 +15,5 @@ returns-in_err-value c =
 
 pub returns : goal.returns
 returns c =
-    let value : decimal 0 c.args.digits.now ≡ c.loop-rest.value = sym c.loop-rest.invariant.0 ∙ decimal_ends c.loop-rest.value c.loop-rest.rest.now c.in_default.len_below in
+    let value : value_from 0 c.args.digits.now ≡ c.loop-rest.value = sym c.loop-rest.invariant.0 ∙ value_ends c.loop-rest.value c.loop-rest.rest.now c.in_default.len_below in
     ap (λ (n : ℕ). Some n) (sym value) ∙ sym (small_enough _ (omega (arith, value, c.loop-rest.invariant.2)))

@@ -1,0 +1,203 @@
+//! The session: a script is played line by line.
+
+ghost use Rattle.std.specs.Prelude.{◌≡◌, ◌≢◌, ◌<◌, ◌^◌, ◌++◌, None, IfOk, IfSome, OnOk, IsErrOf, codes, decimal, Some, true};
+ghost use Rattle.formulas.specs.Tree.{formula_tree};
+ghost use Rattle.formulas.specs.Sorts.{fits as fits_tree};
+ghost use Rattle.proof_terms.specs.Tree.{proof_tree};
+ghost use Rattle.proof_terms.specs.Size.{proof_size};
+ghost use Rattle.cert_codec.specs.Tree.{checked_tree};
+ghost use Rattle.cert_codec.specs.Spelling.{spell, is_built_formula, IsBuiltProof};
+ghost use Rattle.cert_check.specs.Valid.{IsFileOf};
+ghost use Rattle.ck_text.specs.Lines.{lines_of, line_tree, spec, skip, intro, exact, export};
+ghost use Rattle.derivation.specs.declared.derivation.StepFault.TheVariants as faults;
+ghost use Rattle.derivation.specs.Derivation.{DerivationTree, derivation_tree, open_hole};
+ghost use Rattle.derivation.specs.Derived.{IsKept};
+ghost use Rattle.derivation.specs.Printing.{open_text};
+ghost use Rattle.cocktail.specs.Session.{Plays, open_of, state_of, certificate_tree_of};
+ghost use Rattle.cocktail.specs.declared.session.Answer.TheVariants as answers;
+ghost use Rattle.cocktail.specs.Session.{Accepts};
+ghost use Rattle.cocktail.specs.Answers.{IsKeptSession, MayBe, AnswersTo, Answers};
+
+use cert_codec::Certificate;
+use ck_base::{NoMemory, Text};
+use ck_text::{Line, LineFault, OpenHole, is_blank_line, next_line, read_line};
+use derivation::{Derivation, StepFault};
+use std::alloc::Global;
+
+/// What a script gave.
+#[derive(Drop)]
+pub struct Played {
+    /// The replies to its lines up to its end, or up to the first accepted `export`.
+    pub transcript: Text,
+    /// The certificate of that `export`.
+    pub exported: Option<Certificate>,
+}
+
+/// What a line gave.
+#[derive(Drop)]
+pub enum Answer {
+    /// The session goes on.
+    Next(Option<Derivation>),
+    /// The session is over.
+    Exported(Certificate),
+}
+
+/// Plays the script.
+pub fn play(alloc: Global, script: &[u8]) -> Result<Played, NoMemory>
+    ensures plays { IfOk result (λ played. Plays (lines_of script.now) played.transcript (certificate_tree_of played.exported)) }
+    ensures valid { IfOk result (λ played. IfSome played.exported (λ c. IsFileOf (checked_tree c) (spell (checked_tree c)))) }
+{
+    let mut session = None;
+    let mut transcript = Text::new(alloc);
+    let mut rest = script;
+    while let Some((line, more)) = next_line(rest) {
+        match answer(alloc, session, line, &mut transcript)? {
+            Answer::Next(next) => session = next,
+            Answer::Exported(certificate) => {
+                return Ok(Played {
+                    transcript,
+                    exported: Some(certificate),
+                });
+            }
+        }
+        rest = more;
+    }
+    Ok(Played {
+        transcript,
+        exported: None,
+    })
+}
+
+// Answers one line, and adds its reply to the transcript.
+fn answer(
+    alloc: Global,
+    session: Option<Derivation>,
+    line: &[u8],
+    out: &mut Text,
+) -> Result<Answer, NoMemory>
+    requires { IsKeptSession session }
+    ensures { IfOk result (λ answer. Answers (state_of session) line.now out.old out.new answer) }
+{
+    if is_blank_line(line) {
+        return Ok(Answer::Next(session));
+    }
+    match read_line(alloc, opened(&session), line) {
+        Ok(meant) => answer_to(alloc, session, meant, out),
+        Err(LineFault::Unread) => refused(session, out),
+        Err(LineFault::NoMemory) => Err(NoMemory),
+    }
+}
+
+// The hole that is open.
+fn opened(session: &Option<Derivation>) -> Option<OpenHole>
+    requires { IsKeptSession session.now }
+    ensures hole { result ≡ open_of (state_of session.now) }
+    ensures few { IfSome result (λ h. h.hypotheses < 2 ^ 31) }
+{
+    match session {
+        Some(derivation) => derivation.opened(),
+        None => None,
+    }
+}
+
+// The refusal of a line. Nothing changes.
+fn refused(session: Option<Derivation>, out: &mut Text) -> Result<Answer, NoMemory>
+    requires { IsKeptSession session }
+    ensures { IfOk result (λ answer. (out.new ≡ out.old ++ codes "refused Line\n") × (answer ≡ answers.Next session)) }
+{
+    out.append(b"refused Line\n")?;
+    Ok(Answer::Next(session))
+}
+
+// Answers what a line asks for.
+fn answer_to(
+    alloc: Global,
+    session: Option<Derivation>,
+    line: Line,
+    out: &mut Text,
+) -> Result<Answer, NoMemory>
+    requires kept { IsKeptSession session }
+    requires meant { MayBe (line_tree line) }
+    ensures { IfOk result (λ answer. AnswersTo (state_of session) (line_tree line) out.old out.new answer) }
+{
+    match (session, line) {
+        (None, Line::Spec { pre, post }) => accepted(alloc, Derivation::begin(pre, post), out),
+        (Some(derivation), Line::Export) => export(alloc, derivation, out),
+        (Some(derivation), line) => step(alloc, derivation, line, out),
+        (session, _) => refused(session, out),
+    }
+}
+
+// Adds the reply to an accepted line: `ok`, and the line of the hole that it opens.
+fn accepted(alloc: Global, derivation: Derivation, out: &mut Text) -> Result<Answer, NoMemory>
+    requires { IsKept derivation }
+    ensures { IfOk result (λ answer. (out.new ≡ out.old ++ (codes "ok\n" ++ open_text (derivation_tree derivation))) × (answer ≡ answers.Next (Some derivation))) }
+{
+    out.append(b"ok\n")?;
+    derivation.print_open(alloc, out)?;
+    Ok(Answer::Next(Some(derivation)))
+}
+
+// Answers a step.
+fn step(
+    alloc: Global,
+    derivation: Derivation,
+    line: Line,
+    out: &mut Text,
+) -> Result<Answer, NoMemory>
+    requires kept { IsKept derivation }
+    requires meant { MayBe (line_tree line) }
+    requires step { line_tree line ≢ export }
+    ensures { IfOk result (λ answer. AnswersTo (Some (derivation_tree derivation)) (line_tree line) out.old out.new answer) }
+{
+    let mut derivation = derivation;
+    match taken(alloc, &mut derivation, line) {
+        Ok(()) => accepted(alloc, derivation, out),
+        Err(StepFault::Refused) => refused(Some(derivation), out),
+        Err(StepFault::NoMemory) => Err(NoMemory),
+    }
+}
+
+// Takes the step that the line asks for. No other line is accepted within a derivation.
+fn taken(alloc: Global, derivation: &mut Derivation, line: Line) -> Result<(), StepFault>
+    requires kept { IsKept derivation.old }
+    requires meant { MayBe (line_tree line) }
+    ensures taken { OnOk result (Accepts (Some (derivation_tree derivation.old)) (line_tree line) (derivation_tree derivation.new)) }
+    ensures refused { IsErrOf result faults.Refused → (next : DerivationTree) → Accepts (Some (derivation_tree derivation.old)) (line_tree line) next → ⊥ }
+    ensures unchanged { IsErrOf result faults.Refused → derivation.new ≡ derivation.old }
+    ensures kept { OnOk result (IsKept derivation.new) }
+{
+    match line {
+        Line::Skip { hole } => derivation.skip(alloc, hole),
+        Line::Intro { hole } => derivation.intro(hole),
+        Line::Exact { hole, proof } => derivation.exact(alloc, hole, proof),
+        Line::Spec { .. } | Line::Export => Err(StepFault::Refused),
+    }
+}
+
+// Answers `export`.
+fn export(alloc: Global, derivation: Derivation, out: &mut Text) -> Result<Answer, NoMemory>
+    requires { IsKept derivation }
+    ensures { IfOk result (λ answer. AnswersTo (Some (derivation_tree derivation)) export out.old out.new answer) }
+{
+    match derivation.certificate(alloc) {
+        Ok(certificate) => Ok(Answer::Exported(certificate)),
+        Err(derivation) => unfinished(alloc, derivation, out),
+    }
+}
+
+// Adds the refusal of an `export` with a hole open.
+fn unfinished(alloc: Global, derivation: Derivation, out: &mut Text) -> Result<Answer, NoMemory>
+    requires kept { IsKept derivation }
+    requires some { open_hole (derivation_tree derivation).progress ≢ None }
+    ensures { IfOk result (λ answer. AnswersTo (Some (derivation_tree derivation)) export out.old out.new answer) }
+{
+    let Some(hole) = derivation.opened() else {
+        unreachable!()
+    };
+    let number = hole.number.to_string(alloc)?;
+    out.append(b"refused Unfinished ")?;
+    out.append(number.as_bytes())?;
+    out.append(b"\n")?;
+    Ok(Answer::Next(Some(derivation)))
+}
