@@ -1,3 +1,3 @@
 pub mod Transfers
-pub mod Built
-pub mod Sound
+pub mod Lines
+pub mod Sessions

@@ -53,7 +53,7 @@ proof_text (abstraction a t) hypotheses p few e =
     let ih = proof_text t (suc hypotheses) part.0 (omega (arith, few)) part.1 in
     let built : IsBuiltProof (lambda (formula_of a) part.0) = (built_text a, ih.0) in
     let small : proof_size (lambda (formula_of a) part.0) ≤ 2 * length (proof_tokens (abstraction a t)) =
-        omega (arith, small_text a, ih.1, length-append (formula_tokens a) (token.Comma ∷ (proof_tokens t ++ (token.Close ∷ []))), length-append (proof_tokens t) (token.Close ∷ [])) in
+    omega (arith, small_text a, ih.1, length-append (formula_tokens a) (token.Comma ∷ (proof_tokens t ++ (token.Close ∷ []))), length-append (proof_tokens t) (token.Close ∷ [])) in
     subst (λ (q : ProofTree). IsBuiltProof q × (proof_size q ≤ 2 * length (proof_tokens (abstraction a t)))) part.2 (built, small)
 proof_text (applied f t) hypotheses p few e =
     let part = both_there (proof_of hypotheses f) (proof_of hypotheses t) p e in
@@ -61,7 +61,7 @@ proof_text (applied f t) hypotheses p few e =
     let two = proof_text t hypotheses part.1 (omega (arith, few)) part.3 in
     let built : IsBuiltProof (application part.0 part.1) = (one.0, two.0) in
     let small : proof_size (application part.0 part.1) ≤ 2 * length (proof_tokens (applied f t)) =
-        omega (arith, one.1, two.1, length-append (proof_tokens f) (token.Comma ∷ (proof_tokens t ++ (token.Close ∷ []))), length-append (proof_tokens t) (token.Close ∷ [])) in
+    omega (arith, one.1, two.1, length-append (proof_tokens f) (token.Comma ∷ (proof_tokens t ++ (token.Close ∷ []))), length-append (proof_tokens t) (token.Close ∷ [])) in
     subst (λ (q : ProofTree). IsBuiltProof q × (proof_size q ≤ 2 * length (proof_tokens (applied f t)))) part.4 (built, small)
 
 -- ---- lines

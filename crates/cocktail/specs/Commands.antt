@@ -1,46 +1,52 @@
--- The commands: which words they are, what is read, and what is printed.
-use Rattle.std.specs.Prelude.{◌≡◌, ℕ, Bool, true, false, not, ◌&&◌, ◌==◌, ◌<◌, ◌≤◌, List, [], ◌∷◌, ◌++◌, length, drop, ◌⊎◌, Some, None, if◌then◌else◌, codes, ⊤}
+-- The commands: which words they are, and what is read, written and printed.
+use Rattle.std.specs.Prelude.{◌≡◌, ℕ, Bool, true, false, not, ◌&&◌, ◌==◌, List, [], ◌∷◌, ◌++◌, length, drop, ◌⊎◌, Some, None, if◌then◌else◌, codes, decimal, ⊤}
 use Rattle.std.specs.declared.option.Option.{Option}
 use Rattle.std.specs.Str.{bytes_eq}
 use Rattle.std.specs.Io.KnownBytes.{Appends}
+use Rattle.cert_codec.specs.Tree.{CertificateTree}
+use Rattle.cert_codec.specs.Spelling.{spell}
+use Rattle.cert_check.specs.Valid.{Complaint, malformed, limits, unproved}
 use Rattle.ck_base.specs.declared.outside.NamedBytes.{NamedBytes}
-use Rattle.ck_base.specs.Outside.{Rose, Holds, IsMissing}
-use Rattle.cocktail.specs.Valid.{Complaint, malformed, limits, unproved}
+use Rattle.ck_base.specs.Outside.{Rose, Holds, Written, nothing, file, Becomes}
+use Rattle.cocktail.specs.declared.words.Command.{Command}
+use Rattle.cocktail.specs.declared.words.Command.TheVariants as commands
+
+-- ---- words
 
 -- a word that can name a file: it is not empty and does not begin with `-`
 abbrev pub is_file_word : List ℕ → Bool
 is_file_word [] = false
 is_file_word (b ∷ bytes) = not (b == 45)
 
-abbrev pub is_check : List ℕ → Bool
-is_check word = bytes_eq word (codes "check")
+-- `check FILE`, or `derive SCRIPT CERTIFICATE`
+pub data CommandTree : Type 0 where
+  checking : (name : List ℕ) → CommandTree
+  deriving_to : (script certificate : List ℕ) → CommandTree
 
--- the file's name, where the words are `check FILE`
-abbrev pub checked_file : List (List ℕ) → Option (List ℕ)
-checked_file [] = None
-checked_file (command ∷ []) = None
-checked_file (command ∷ file ∷ []) =
-    if is_check command && is_file_word file then Some file else None
-checked_file (command ∷ file ∷ word ∷ words) = None
+abbrev pub command_of : List (List ℕ) → Option CommandTree
+command_of (verb ∷ name ∷ []) =
+    if bytes_eq verb (codes "check") && is_file_word name then Some (checking name) else None
+command_of (verb ∷ script ∷ certificate ∷ []) =
+    if bytes_eq verb (codes "derive") && (is_file_word script && is_file_word certificate) then Some (deriving_to script certificate) else None
+command_of words = None
+
+abbrev pub command_tree : Command → CommandTree
+command_tree (commands.Check name) = checking name.now
+command_tree (commands.Derive script certificate) = deriving_to script.now certificate.now
+
+-- ---- what is read
 
 -- an origin that tells its files has these bytes left to read
 abbrev pub Leaves : Option (List NamedBytes) → Option (List ℕ) → List ℕ → Type 0
 Leaves None left rest = ⊤
 Leaves (Some files) left rest = left ≡ Some rest
 
--- The words are `check FILE`, the file has these bytes, and so many of them are left to read, as far as the
--- origin tells.
-pub record Reads (words : List (List ℕ)) (files : Option (List NamedBytes)) (left : Option (List ℕ)) (bytes rest : List ℕ) : Type 0 where
-  pub file : List ℕ
-  pub named : checked_file words ≡ Some file
-  pub holds : Holds files file bytes
+-- The file of that name has these bytes, and so many of them are left to read, as far as the origin tells.
+pub record Reads (name : List ℕ) (files : Option (List NamedBytes)) (left : Option (List ℕ)) (bytes rest : List ℕ) : Type 0 where
+  pub holds : Holds files name bytes
   pub leaves : Leaves files left rest
 
--- The words are `check FILE`, and the origin tells its files and has none of that name.
-pub record FindsNone (words : List (List ℕ)) (files : Option (List NamedBytes)) : Type 0 where
-  pub file : List ℕ
-  pub named : checked_file words ≡ Some file
-  pub missing : IsMissing files file
+-- ---- what is printed
 
 -- a text and the end of its line
 abbrev pub line : List ℕ → List ℕ
@@ -59,3 +65,21 @@ pub record Prints (before after : Option (List ℕ)) (faults faults' : ℕ) (tex
   pub split : text ≡ front ++ rest
   pub gained : Appends before after front
   pub whole : Rose faults faults' ⊎ (rest ≡ [])
+
+-- the reply to an accepted `export` of a file of so many bytes
+abbrev pub exported_line : CertificateTree → List ℕ
+exported_line c = codes "exported " ++ (decimal (length (spell c)) ++ codes " bytes\n")
+
+-- what stands at the end of a transcript
+abbrev pub last_line : Option CertificateTree → List ℕ
+last_line None = codes "not exported\n"
+last_line (Some c) = exported_line c
+
+-- ---- what is written
+
+-- The target holds nothing, or a file of that name with a front of the bytes, as far as it tells.
+pub record HoldsFront (before after : Option Written) (name bytes : List ℕ) : Type 0 where
+  pub front : List ℕ
+  pub rest : List ℕ
+  pub split : bytes ≡ front ++ rest
+  pub written : Becomes before after nothing ⊎ Becomes before after (file name front)

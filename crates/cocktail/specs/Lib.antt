@@ -1,7 +1,7 @@
-pub mod Programs
-pub mod Runs
-pub mod Proves
-pub mod Valid
+pub mod Session
+pub mod Answers
+pub mod Texts
 pub mod Commands
+pub mod Ends
 pub mod Laws
 pub mod Adapters

@@ -2,20 +2,25 @@
 //! program.
 //!
 //! It stands on all other crates. `top` has the top call, whose clauses are what the tool promises. The
-//! definitions behind them are in `specs/`: programs and their runs (`Programs.antt`, `Runs.antt`), when a
-//! node proves its triple (`Proves.antt`), valid files (`Valid.antt`), and the commands (`Commands.antt`).
+//! definitions behind them are in `specs/`: the session of a script (`Session.antt`), what is printed of a
+//! valid file (`Texts.antt`), the commands (`Commands.antt`), and how each of them ends (`Ends.antt`). What a
+//! valid file is, and what it promises, is defined in `cert_check`.
 #![tactic(auto)]
 
 mod adapters;
-mod cert_check;
+mod check;
+mod derive;
 pub mod laws;
 mod printing;
 mod reading;
+mod session;
 mod status;
 #[cfg(test)]
 mod tests;
+mod texts;
 mod top;
 mod words;
+mod writing;
 
 use adapters::{FileOrigin, FileTarget, StdSink};
 use status::Status;

@@ -14,6 +14,7 @@ pub fn print<O: Sink>(out: &mut O, text: &[u8]) -> Result<(), Failed>
     ensures printed { Prints (O.gained out.old) (O.gained out.new) (O.faults out.old) (O.faults out.new) text.now }
     ensures whole { OnOk result (Appends (O.gained out.old) (O.gained out.new) text.now) }
     ensures cause { OnErr result (Rose (O.faults out.old) (O.faults out.new)) }
+    ensures later { O.faults out.old ≤ O.faults out.new }
 {
     let mut written = 0;
     while written < text.len() {
@@ -31,8 +32,8 @@ pub fn reported<O: Sink>(out: &mut O, text: &[u8], status: Status) -> Status
     status
 }
 
-// The bytes from `at` on.
-fn tail(bytes: &[u8], at: usize) -> &[u8]
+/// The bytes from `at` on.
+pub fn tail(bytes: &[u8], at: usize) -> &[u8]
     requires { at ≤ length bytes.now }
     ensures { result.now ≡ drop at bytes.now }
 {

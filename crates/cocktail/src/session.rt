@@ -51,7 +51,7 @@ pub fn play(alloc: Global, script: &[u8]) -> Result<Played, NoMemory>
     let mut transcript = Text::new(alloc);
     let mut rest = script;
     while let Some((line, more)) = next_line(rest) {
-        match answer(alloc, session, line, &mut transcript)? {
+        match answer_line(alloc, session, line, &mut transcript)? {
             Answer::Next(next) => session = next,
             Answer::Exported(certificate) => {
                 return Ok(Played {
@@ -69,7 +69,7 @@ pub fn play(alloc: Global, script: &[u8]) -> Result<Played, NoMemory>
 }
 
 // Answers one line, and adds its reply to the transcript.
-fn answer(
+fn answer_line(
     alloc: Global,
     session: Option<Derivation>,
     line: &[u8],

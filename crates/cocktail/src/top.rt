@@ -1,18 +1,16 @@
 //! The top call: the words of the command line are read, and the command is run on the outside.
 
-ghost use Rattle.std.specs.Prelude.{◌≡◌, ◌≢◌, ◌+◌, ◌<◌, ◌≤◌, ◌⊎◌, ◌↔◌, Some, None, [], List, ℕ, map, length, drop, codes};
+ghost use Rattle.std.specs.Prelude.{◌≡◌, ◌≢◌, ◌⊎◌, ◌↔◌, Some, None, map, codes};
 ghost use Rattle.std.specs.String.{string_bytes};
-ghost use Rattle.std.specs.Io.KnownBytes.{Appends};
 ghost use Rattle.ck_base.specs.Outside.{Rose, fresh};
-ghost use Rattle.cocktail.specs.Valid.{Valid, HasPromise, Complaint, Complains};
-ghost use Rattle.cocktail.specs.Commands.{checked_file, Reads, FindsNone, Prints, line, complaint_line};
+ghost use Rattle.cocktail.specs.Commands.{command_of, line, Prints};
+ghost use Rattle.cocktail.specs.Ends.{HasChecked, HasComplained, CannotTell, HasDerived, HasNotExported, CannotReply, CannotWrite, IsForeign, FindsNone, IsTooLong};
 
-use crate::cert_check::{CheckFault, check};
-use crate::printing::{print, reported};
-use crate::reading::{ReadFault, read_whole};
+use crate::check::check;
+use crate::derive::derive;
+use crate::printing::reported;
 use crate::status::Status;
-use crate::words::checked_file;
-use ck_base::limits::CERTIFICATE_BYTES;
+use crate::words::{Command, command_in};
 use ck_base::{Origin, Sink, Target};
 use std::alloc::Global;
 
@@ -27,67 +25,53 @@ pub fn cocktail<I: Origin, T: Target, O: Sink>(
 ) -> Status
     requires { T.stage target.old ≡ fresh }
 
-    // The file was read to its end and is valid, the program of such a file keeps its promise over every run,
-    // and `valid` was printed.
-    ensures done { result ≡ Status.Done → (bytes : List ℕ)
-        × Reads (map string_bytes words.now) (I.files input.old) (I.left input.new) bytes []
-        × Valid bytes × HasPromise bytes
-        × Appends (O.gained out.old) (O.gained out.new) (line (codes "valid")) }
+    // A checked file is valid and its program keeps its promise over every run; a derived one too, and it is
+    // exactly what the session exports.
+    ensures done { result ≡ Status.Done →
+        HasChecked (command_of (map string_bytes words.now)) (I.files input.old) (I.left input.new) (O.gained out.old) (O.gained out.new)
+        ⊎ HasDerived (command_of (map string_bytes words.now)) (I.files input.old) (I.left input.new) (T.written target.old) (T.written target.new) (O.gained out.old) (O.gained out.new) }
 
-    // The file was read to its end within the limit and is not valid, for the reason that was printed.
-    ensures refused { result ≡ Status.Refused → (bytes : List ℕ)
-        × Reads (map string_bytes words.now) (I.files input.old) (I.left input.new) bytes []
-        × (length bytes ≤ 4194304) × (Valid bytes → ⊥)
-        × (complaint : Complaint) × Complains bytes complaint
-        × Prints (O.gained out.old) (O.gained out.new) (O.faults out.old) (O.faults out.new) (complaint_line complaint) }
+    // A checked file is not valid; a script has no accepted `export`.
+    ensures refused { result ≡ Status.Refused →
+        HasComplained (command_of (map string_bytes words.now)) (I.files input.old) (I.left input.new) (O.gained out.old) (O.gained out.new) (O.faults out.old) (O.faults out.new)
+        ⊎ HasNotExported (command_of (map string_bytes words.now)) (I.files input.old) (I.left input.new) (O.gained out.old) (O.gained out.new) }
 
     // The words are no command, which was printed.
-    ensures words { (result ≡ Status.Words) ↔ (checked_file (map string_bytes words.now) ≡ None) }
+    ensures words { (result ≡ Status.Words) ↔ (command_of (map string_bytes words.now) ≡ None) }
     ensures words_printed { result ≡ Status.Words →
         Prints (O.gained out.old) (O.gained out.new) (O.faults out.old) (O.faults out.new) (line (codes "refused words")) }
 
     // A call on the origin failed, or it has no such file.
     ensures read_fault { result ≡ Status.ReadFault →
-        Rose (I.faults input.old) (I.faults input.new) ⊎ FindsNone (map string_bytes words.now) (I.files input.old) }
+        Rose (I.faults input.old) (I.faults input.new) ⊎ FindsNone (command_of (map string_bytes words.now)) (I.files input.old) }
 
-    // The file was read to its end and is valid, and a put on the sink failed.
-    ensures out_fault { result ≡ Status.OutFault → (bytes : List ℕ)
-        × Reads (map string_bytes words.now) (I.files input.old) (I.left input.new) bytes []
-        × Valid bytes × Rose (O.faults out.old) (O.faults out.new)
-        × Prints (O.gained out.old) (O.gained out.new) (O.faults out.old) (O.faults out.new) (line (codes "valid")) }
+    // A put on the sink failed, where a valid file was checked or a script was played.
+    ensures out_fault { result ≡ Status.OutFault → Rose (O.faults out.old) (O.faults out.new)
+        × (CannotTell (command_of (map string_bytes words.now)) (I.files input.old) (I.left input.new) (O.gained out.old) (O.gained out.new) (O.faults out.old) (O.faults out.new)
+        ⊎ CannotReply (command_of (map string_bytes words.now)) (I.files input.old) (I.left input.new) (target.new ≡ target.old) (T.written target.old) (T.written target.new) (O.gained out.old) (O.gained out.new) (O.faults out.old) (O.faults out.new)) }
+
+    // A call on the target failed, or it is not the one of that name.
+    ensures target_fault { result ≡ Status.TargetFault →
+        (Rose (T.faults target.old) (T.faults target.new) ⊎ IsForeign (command_of (map string_bytes words.now)) (T.takes target.old))
+        × CannotWrite (command_of (map string_bytes words.now)) (I.files input.old) (I.left input.new) (T.written target.old) (T.written target.new) (O.gained out.old) (O.gained out.new) }
 
     // The file has more bytes than the limit, and one byte past the limit was read.
-    ensures too_long { result ≡ Status.TooLong → (bytes : List ℕ)
-        × Reads (map string_bytes words.now) (I.files input.old) (I.left input.new) bytes (drop 4194305 bytes)
-        × (4194304 < length bytes)
-        × Prints (O.gained out.old) (O.gained out.new) (O.faults out.old) (O.faults out.new) (line (codes "refused TooLong")) }
+    ensures too_long { result ≡ Status.TooLong →
+        IsTooLong (command_of (map string_bytes words.now)) (I.files input.old) (I.left input.new) (O.gained out.old) (O.gained out.new) (O.faults out.old) (O.faults out.new) }
 
-    // Nothing is printed where the file was not read or memory ran out, and the target is never touched.
+    // Nothing is printed where the file was not read or memory ran out. The target is touched by an accepted
+    // `export` alone.
     ensures silent { (result ≡ Status.ReadFault) ⊎ (result ≡ Status.NoMemory) → out.new ≡ out.old }
-    ensures untouched { target.new ≡ target.old }
-    ensures no_target_fault { result ≢ Status.TargetFault }
+    ensures untouched { (result ≡ Status.Done) ⊎ ((result ≡ Status.OutFault) ⊎ ((result ≡ Status.TargetFault) ⊎ (target.new ≡ target.old))) }
 {
-    let _ = target;
-    let Some(file) = checked_file(words) else {
-        return reported(out, b"refused words\n", Status::Words);
-    };
-    let bytes = match read_whole(alloc, input, file, CERTIFICATE_BYTES) {
-        Ok(bytes) => bytes,
-        Err(ReadFault::Failed) => return Status::ReadFault,
-        Err(ReadFault::TooLong) => {
-            return reported(out, b"refused TooLong\n", Status::TooLong);
-        }
-        Err(ReadFault::NoMemory) => return Status::NoMemory,
-    };
-    match check(alloc, bytes.as_slice()) {
-        Ok(_) => match print(out, b"valid\n") {
-            Ok(()) => Status::Done,
-            Err(_) => Status::OutFault,
-        },
-        Err(CheckFault::Malformed { .. }) => reported(out, b"refused Malformed\n", Status::Refused),
-        Err(CheckFault::Limits) => reported(out, b"refused Limits\n", Status::Refused),
-        Err(CheckFault::Unproved) => reported(out, b"refused Unproved\n", Status::Refused),
-        Err(CheckFault::NoMemory) => Status::NoMemory,
-        Err(CheckFault::TooLong) => unreachable!(),
+    match command_in(words) {
+        Some(Command::Check { name }) => check(alloc, name, input, out),
+        Some(
+            Command::Derive {
+                script,
+                certificate,
+            },
+        ) => { derive(alloc, script, certificate, input, target, out) }
+        None => reported(out, b"refused words\n", Status::Words),
     }
 }

@@ -1,31 +1,50 @@
 //! The words of the command line.
 
-ghost use Rattle.std.specs.Prelude.{◌≡◌, map, IsTrue, true, ◌↔◌};
+ghost use Rattle.std.specs.Prelude.{◌≡◌, map};
+ghost use Rattle.std.specs.Option.{option_map};
 ghost use Rattle.std.specs.String.{string_bytes};
-ghost use Rattle.std.specs.Option.{option_copied};
-ghost use Rattle.cocktail.specs.Commands as spec;
+ghost use Rattle.cocktail.specs.Commands.{command_of, command_tree, is_file_word};
 
-/// The file that the words name, where they are `check FILE`; `None` exactly where they are not. They are
-/// the command line without the program's name.
-pub fn checked_file(words: &[String]) -> Option<&str>
-    ensures { option_copied result ≡ spec.checked_file (map string_bytes words.now) }
+/// What the words ask for.
+#[derive(Clone, Copy)]
+pub enum Command<'a> {
+    /// `check FILE`.
+    Check {
+        name: &'a str,
+    },
+    /// `derive SCRIPT CERTIFICATE`.
+    Derive {
+        script: &'a str,
+        certificate: &'a str,
+    },
+}
+
+/// The command that the words name; `None` exactly where they name none. They are the command line without
+/// the program's name.
+pub fn command_in(words: &[String]) -> Option<Command<'_>>
+    ensures { option_map command_tree result ≡ command_of (map string_bytes words.now) }
 {
     match words {
-        [command, file] if is_check(command.as_str()) && is_file_word(file.as_str()) => {
-            Some(file.as_str())
+        [verb, name] if verb.as_str() == "check" && is_file_word(name.as_str()) => {
+            Some(Command::Check {
+                name: name.as_str(),
+            })
+        }
+        [verb, script, certificate]
+            if verb.as_str() == "derive"
+                && is_file_word(script.as_str())
+                && is_file_word(certificate.as_str()) => {
+            Some(Command::Derive {
+                script: script.as_str(),
+                certificate: certificate.as_str(),
+            })
         }
         _ => None,
     }
 }
 
-fn is_check(word: &str) -> bool
-    ensures { result ≡ spec.is_check word.now }
-{
-    word == "check"
-}
-
 fn is_file_word(word: &str) -> bool
-    ensures { result ≡ spec.is_file_word word.now }
+    ensures { result ≡ is_file_word word.now }
 {
     match word.as_bytes() {
         [] => false,

@@ -26,7 +26,7 @@ returns-clause-taken c =
     let limits = c.is_within.ensures.0 c.if-not-is_within.false in
     let open_is : progress_tree c.args.self.now.progress ≡ proving hypotheses (formula_tree c.in-Proving.goal) = ap progress_tree c.in-Proving.is in
     let progress : progress_tree c.finish.new.progress ≡ finished (abstracted hypotheses (proof_tree c.args.proof)) =
-        c.in_ok-finish.ensures ∙ ap (λ (g : ProgressTree). finished (abstracted (assumed_in g) (proof_tree c.args.proof))) open_is in
+    c.in_ok-finish.ensures ∙ ap (λ (g : ProgressTree). finished (abstracted (assumed_in g) (proof_tree c.args.proof))) open_is in
     let next : DerivationTree = record { pre = formula_tree c.args.self.now.pre; post = formula_tree c.args.self.now.post; progress = progress_tree c.finish.new.progress } in
     let next_is : next ≡ record { pre = formula_tree c.args.self.now.pre; post = formula_tree c.args.self.now.post; progress = finished (abstracted hypotheses (proof_tree c.args.proof)) } = rw progress refl in
     let has = rw c.if-not-branch.false at c.in_ok-shows.ensures in
@@ -38,7 +38,7 @@ returns-clause-kept c =
     let limits = c.is_within.ensures.0 c.if-not-is_within.false in
     let open_is : progress_tree c.args.self.now.progress ≡ proving hypotheses (formula_tree c.in-Proving.goal) = ap progress_tree c.in-Proving.is in
     let progress : progress_tree c.finish.new.progress ≡ finished (abstracted hypotheses (proof_tree c.args.proof)) =
-        c.in_ok-finish.ensures ∙ ap (λ (g : ProgressTree). finished (abstracted (assumed_in g) (proof_tree c.args.proof))) open_is in
+    c.in_ok-finish.ensures ∙ ap (λ (g : ProgressTree). finished (abstracted (assumed_in g) (proof_tree c.args.proof))) open_is in
     let next : DerivationTree = record { pre = formula_tree c.args.self.now.pre; post = formula_tree c.args.self.now.post; progress = progress_tree c.finish.new.progress } in
     let next_is : next ≡ record { pre = formula_tree c.args.self.now.pre; post = formula_tree c.args.self.now.post; progress = finished (abstracted hypotheses (proof_tree c.args.proof)) } = rw progress refl in
     let has = rw c.if-not-branch.false at c.in_ok-shows.ensures in

@@ -21,6 +21,6 @@ returns-clause-kept c =
       progress = proving (hypotheses_of c.assume.new.context) (formula_tree c.assume.new.goal);
     } in
     let next_is : next ≡ record { pre = formula_tree c.args.self.now.pre; post = formula_tree c.args.self.now.post; progress = proving (left_of (formula_tree c.in-Proving.goal) ∷ hypotheses) (right_of (formula_tree c.in-Proving.goal)) } =
-        rw (c.in_ok-assume.ensures.context, c.in_ok-assume.ensures.goal) refl in
+    rw (c.in_ok-assume.ensures.context, c.in_ok-assume.ensures.goal) refl in
     let kept = intro_kept (derivation_tree c.args.self.now) next c.args.hole c.args.self.now.nodes c.in-Some.assumed hypotheses (formula_tree c.in-Proving.goal) c.requires.derived (ap progress_tree c.in-Proving.is) (c.if-hole-proof_hole.false ∙ c.proof_hole.ensures) (sym c.in-Some.ensures) c.requires.count next_is limits.0 (omega (arith, limits.1, count, c.len.ensures)) in
     record { derived = kept.1; count = kept.2; closed = c.in_ok-assume.ensures.closed ∙ (rw c.in-Proving.is at c.requires.closed) }

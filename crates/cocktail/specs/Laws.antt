@@ -1,0 +1,29 @@
+-- What holds of sessions.
+use Rattle.std.specs.Prelude.{◌≡◌, ℕ, List, [], None, Some, ◌↔◌}
+use Rattle.std.specs.declared.option.Option.{Option}
+use Rattle.cert_codec.specs.Tree.{CertificateTree, skip}
+use Rattle.cert_codec.specs.Spelling.{spell}
+use Rattle.cert_check.specs.Proves.{Proves}
+use Rattle.cert_check.specs.Valid.{IsFileOf}
+use Rattle.proof_terms.specs.Tree.{ProofTree}
+use Rattle.ck_text.specs.Lines.{export, Means}
+use Rattle.derivation.specs.Derivation.{DerivationTree, finished, open_hole}
+use Rattle.cocktail.specs.Session.{State, open_of, Leads, IsExported}
+
+-- no hole is open, and the one obligation's proof has its formula
+abbrev pub IsComplete : DerivationTree → Type 0
+IsComplete d = (open_hole d.progress ≡ None) × (p : ProofTree) × (d.progress ≡ finished p) × Proves [] d.pre (skip p) d.post
+
+-- Behind whatever lines, `export` is accepted exactly where no hole is open and every obligation's proof has
+-- its formula.
+abbrev pub ExportIsExact : Type 0
+ExportIsExact =
+    (lines : List (List ℕ)) (transcript : List ℕ) (d : DerivationTree) (line : List ℕ)
+    → Leads None lines transcript (Some d) → Means (open_of (Some d)) line export
+    → ((c : CertificateTree) × IsExported (Some d) line c) ↔ IsComplete d
+
+-- what is exported is a valid file
+abbrev pub ExportIsValid : Type 0
+ExportIsValid =
+    (lines : List (List ℕ)) (transcript : List ℕ) (state : State) (line : List ℕ) (c : CertificateTree)
+    → Leads None lines transcript state → IsExported state line c → IsFileOf c (spell c)

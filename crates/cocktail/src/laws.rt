@@ -1,0 +1,13 @@
+//! What is proved of sessions beyond single scripts. Each statement is in `specs/Laws.antt`.
+
+ghost use Rattle.cocktail.specs.Laws.{ExportIsExact, ExportIsValid};
+
+/// `export` is accepted exactly where no hole is open and every obligation's proof has its formula.
+pub fn export_is_exact()
+    ensures { ExportIsExact }
+{}
+
+/// What is exported is a valid file.
+pub fn export_is_valid()
+    ensures { ExportIsValid }
+{}
