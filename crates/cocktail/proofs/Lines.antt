@@ -1,5 +1,5 @@
 -- What a line of at most 8,192 bytes can ask for.
-use Rattle.std.proofs.Common.{◌≡◌, ℕ, zero, suc, ◌+◌, ◌-◌, ◌*◌, ◌^◌, ◌<◌, ◌≤◌, max, Bool, true, false, List, [], ◌∷◌, ◌++◌, length, refl, sym, ap, subst, ◌∙◌, arith, Option, Some, None, nat_lt, nat_le, if◌then◌else◌}
+use Rattle.std.proofs.Common.{◌≡◌, ℕ, zero, suc, ◌+◌, ◌-◌, ◌*◌, ◌^◌, ◌<◌, ◌≤◌, max, Bool, true, false, List, [], ◌∷◌, ◌++◌, length, refl, sym, ap, subst, ◌∙◌, arith, Option, Some, None, nat_lt, nat_le, ◌==◌, if◌then◌else◌}
 use Rattle.std.proofs.lemmas.List.{length-append}
 use Rattle.std.proofs.lemmas.Bool.{and_parts, leb-true}
 use Rattle.std.specs.List.{list_all}
@@ -95,7 +95,7 @@ text_may_be opened line tree (intro_text hole) few short w tokens e =
 text_may_be opened line tree (exact_text hole t) few short w tokens e =
     let part = mapped (λ q. exact hole q) (proof_of (hypotheses_at opened hole) t) tree e in
     let p = proof_text t (hypotheses_at opened hole) part.0 (omega (arith, few_hypotheses opened hole few, w.nested)) part.1 in
-    let count : 3 + length (proof_tokens t) ≡ length (scan 0 line) = ap length tokens in
+    let count : suc (suc (suc (length (proof_tokens t)))) ≡ length (scan 0 line) = ap length tokens in
     let small : proof_size part.0 < 2 ^ 31 = omega (arith, p.1, count, few_tokens 0 line, short) in
     subst MayBe part.2 (p.0, small)
 text_may_be opened line tree export_text few short w tokens e =

@@ -17,26 +17,29 @@ use Rattle.cocktail.specs.Commands.{CommandTree, checking, deriving_to, Reads, l
 -- ---- both commands
 
 -- the file that a command reads, and the most bytes that it may have
-abbrev pub asks_for : Option CommandTree → Option (List ℕ × ℕ)
+abbrev pub asks_for : Option CommandTree → Option (List ℕ)
 asks_for None = None
-asks_for (Some (checking name)) = Some (name, 4194304)
-asks_for (Some (deriving_to script certificate)) = Some (script, 1048576)
+asks_for (Some (checking name)) = Some name
+asks_for (Some (deriving_to script name)) = Some script
+
+abbrev pub limit_of : Option CommandTree → ℕ
+limit_of None = 0
+limit_of (Some (checking name)) = 4194304
+limit_of (Some (deriving_to script name)) = 1048576
 
 -- The origin tells its files, and has not the one that the command reads.
 pub record FindsNone (command : Option CommandTree) (files : Option (List NamedBytes)) : Type 0 where
   pub name : List ℕ
-  pub limit : ℕ
-  pub named : asks_for command ≡ Some (name, limit)
+  pub named : asks_for command ≡ Some name
   pub missing : IsMissing files name
 
 -- The file has more bytes than its limit, one byte past the limit was read, and that was printed.
 pub record IsTooLong (command : Option CommandTree) (files : Option (List NamedBytes)) (left gained gained' : Option (List ℕ)) (faults faults' : ℕ) : Type 0 where
   pub name : List ℕ
-  pub limit : ℕ
-  pub named : asks_for command ≡ Some (name, limit)
+  pub named : asks_for command ≡ Some name
   pub bytes : List ℕ
-  pub reads : Reads name files left bytes (drop (limit + 1) bytes)
-  pub long : limit < length bytes
+  pub reads : Reads name files left bytes (drop (limit_of command + 1) bytes)
+  pub long : limit_of command < length bytes
   pub printed : Prints gained gained' faults faults' (line (codes "refused TooLong"))
 
 -- ---- check

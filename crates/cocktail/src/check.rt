@@ -1,11 +1,8 @@
 //! `check FILE`: whether a file is a valid certificate.
 
 ghost use Rattle.std.specs.Prelude.{◌≡◌, ◌≢◌, ◌⊎◌, Some};
-ghost use Rattle.std.specs.Io.KnownBytes.{Appends};
-ghost use Rattle.cert_codec.specs.Tree.{checked_tree};
-ghost use Rattle.cocktail.specs.Texts.{triple_text};
 ghost use Rattle.ck_base.specs.Outside.{Rose};
-ghost use Rattle.cocktail.specs.Commands.{checking, Prints};
+ghost use Rattle.cocktail.specs.Commands.{checking};
 ghost use Rattle.cocktail.specs.Ends.{HasChecked, HasComplained, CannotTell, FindsNone, IsTooLong};
 
 use crate::printing::{print, reported};
@@ -13,7 +10,6 @@ use crate::reading::{ReadFault, read_whole};
 use crate::status::Status;
 use crate::texts::triple;
 use cert_check::CheckFault;
-use cert_codec::Certificate;
 use ck_base::limits::CERTIFICATE_BYTES;
 use ck_base::{Origin, Sink};
 use std::alloc::Global;
@@ -36,27 +32,17 @@ pub fn check<I: Origin, O: Sink>(alloc: Global, name: &str, input: &mut I, out: 
         Err(ReadFault::NoMemory) => return Status::NoMemory,
     };
     match cert_check::check(alloc, bytes.as_slice()) {
-        Ok(certificate) => told(alloc, &certificate, out),
+        Ok(certificate) => match triple(alloc, &certificate) {
+            Ok(text) => match print(out, text.as_bytes()) {
+                Ok(()) => Status::Done,
+                Err(_) => Status::OutFault,
+            },
+            Err(_) => Status::NoMemory,
+        },
         Err(CheckFault::Malformed { .. }) => reported(out, b"refused Malformed\n", Status::Refused),
         Err(CheckFault::Limits) => reported(out, b"refused Limits\n", Status::Refused),
         Err(CheckFault::Unproved) => reported(out, b"refused Unproved\n", Status::Refused),
         Err(CheckFault::NoMemory) => Status::NoMemory,
         Err(CheckFault::TooLong) => unreachable!(),
-    }
-}
-
-// Prints the triple of a valid certificate.
-fn told<O: Sink>(alloc: Global, certificate: &Certificate, out: &mut O) -> Status
-    ensures done { result ≡ Status.Done → Appends (O.gained out.old) (O.gained out.new) (triple_text (checked_tree certificate.now)) }
-    ensures out_fault { result ≡ Status.OutFault → Rose (O.faults out.old) (O.faults out.new) × Prints (O.gained out.old) (O.gained out.new) (O.faults out.old) (O.faults out.new) (triple_text (checked_tree certificate.now)) }
-    ensures silent { result ≡ Status.NoMemory → out.new ≡ out.old }
-    ensures only { (result ≡ Status.Done) ⊎ ((result ≡ Status.OutFault) ⊎ (result ≡ Status.NoMemory)) }
-{
-    let Ok(text) = triple(alloc, certificate) else {
-        return Status::NoMemory;
-    };
-    match print(out, text.as_bytes()) {
-        Ok(()) => Status::Done,
-        Err(_) => Status::OutFault,
     }
 }

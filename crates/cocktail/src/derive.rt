@@ -103,11 +103,13 @@ fn export<T: Target, O: Sink>(
     let Ok(reply) = exported_reply(alloc, bytes.len()) else {
         return Status::NoMemory;
     };
-    if print(out, transcript.as_bytes()).is_err() {
-        return Status::OutFault;
+    match print(out, transcript.as_bytes()) {
+        Ok(()) => (),
+        Err(_) => return Status::OutFault,
     }
-    if write_whole(target, name, bytes.as_slice()).is_err() {
-        return Status::TargetFault;
+    match write_whole(target, name, bytes.as_slice()) {
+        Ok(()) => (),
+        Err(_) => return Status::TargetFault,
     }
     match print(out, reply.as_bytes()) {
         Ok(()) => Status::Done,

@@ -13,7 +13,7 @@ ghost use Rattle.derivation.specs.declared.derivation.StepFault.TheVariants as f
 ghost use Rattle.derivation.specs.Derivation.{DerivationTree, derivation_tree, open_hole};
 ghost use Rattle.derivation.specs.Derived.{IsKept};
 ghost use Rattle.derivation.specs.Printing.{open_text};
-ghost use Rattle.cocktail.specs.Session.{Plays, open_of, state_of, certificate_tree_of};
+ghost use Rattle.cocktail.specs.Session.{Plays, unfinished_line, open_of, state_of, certificate_tree_of};
 ghost use Rattle.cocktail.specs.declared.session.Answer.TheVariants as answers;
 ghost use Rattle.cocktail.specs.Session.{Accepts};
 ghost use Rattle.cocktail.specs.Answers.{IsKeptSession, MayBe, AnswersTo, Answers};
@@ -82,8 +82,11 @@ fn answer_line(
         return Ok(Answer::Next(session));
     }
     match read_line(alloc, opened(&session), line) {
-        Ok(meant) => answer_to(alloc, session, meant, out),
-        Err(LineFault::Unread) => refused(session, out),
+        Ok(meant) => Ok(answer_to(alloc, session, meant, out)?),
+        Err(LineFault::Unread) => {
+            out.append(b"refused Line\n")?;
+            Ok(Answer::Next(session))
+        }
         Err(LineFault::NoMemory) => Err(NoMemory),
     }
 }
@@ -100,15 +103,6 @@ fn opened(session: &Option<Derivation>) -> Option<OpenHole>
     }
 }
 
-// The refusal of a line. Nothing changes.
-fn refused(session: Option<Derivation>, out: &mut Text) -> Result<Answer, NoMemory>
-    requires { IsKeptSession session }
-    ensures { IfOk result (λ answer. (out.new ≡ out.old ++ codes "refused Line\n") × (answer ≡ answers.Next session)) }
-{
-    out.append(b"refused Line\n")?;
-    Ok(Answer::Next(session))
-}
-
 // Answers what a line asks for.
 fn answer_to(
     alloc: Global,
@@ -120,25 +114,34 @@ fn answer_to(
     requires meant { MayBe (line_tree line) }
     ensures { IfOk result (λ answer. AnswersTo (state_of session) (line_tree line) out.old out.new answer) }
 {
-    match (session, line) {
-        (None, Line::Spec { pre, post }) => accepted(alloc, Derivation::begin(pre, post), out),
-        (Some(derivation), Line::Export) => export(alloc, derivation, out),
-        (Some(derivation), line) => step(alloc, derivation, line, out),
-        (session, _) => refused(session, out),
+    match session {
+        None => begin(alloc, line, out),
+        Some(derivation) => match line {
+            Line::Export => export(alloc, derivation, out),
+            line => step(alloc, derivation, line, out),
+        },
     }
 }
 
-// Adds the reply to an accepted line: `ok`, and the line of the hole that it opens.
-fn accepted(alloc: Global, derivation: Derivation, out: &mut Text) -> Result<Answer, NoMemory>
-    requires { IsKept derivation }
-    ensures { IfOk result (λ answer. (out.new ≡ out.old ++ (codes "ok\n" ++ open_text (derivation_tree derivation))) × (answer ≡ answers.Next (Some derivation))) }
+// Answers what a line asks for before a triple is stated.
+fn begin(alloc: Global, line: Line, out: &mut Text) -> Result<Answer, NoMemory>
+    requires { MayBe (line_tree line) }
+    ensures { IfOk result (λ answer. AnswersTo None (line_tree line) out.old out.new answer) }
 {
-    out.append(b"ok\n")?;
-    derivation.print_open(alloc, out)?;
-    Ok(Answer::Next(Some(derivation)))
+    match line {
+        Line::Spec { pre, post } => {
+            let derivation = Derivation::begin(pre, post);
+            add_accepted(alloc, &derivation, out)?;
+            Ok(Answer::Next(Some(derivation)))
+        }
+        _ => {
+            out.append(b"refused Line\n")?;
+            Ok(Answer::Next(None))
+        }
+    }
 }
 
-// Answers a step.
+// Answers a step, or a second triple, which is refused.
 fn step(
     alloc: Global,
     derivation: Derivation,
@@ -152,8 +155,14 @@ fn step(
 {
     let mut derivation = derivation;
     match taken(alloc, &mut derivation, line) {
-        Ok(()) => accepted(alloc, derivation, out),
-        Err(StepFault::Refused) => refused(Some(derivation), out),
+        Ok(()) => {
+            add_accepted(alloc, &derivation, out)?;
+            Ok(Answer::Next(Some(derivation)))
+        }
+        Err(StepFault::Refused) => {
+            out.append(b"refused Line\n")?;
+            Ok(Answer::Next(Some(derivation)))
+        }
         Err(StepFault::NoMemory) => Err(NoMemory),
     }
 }
@@ -182,22 +191,31 @@ fn export(alloc: Global, derivation: Derivation, out: &mut Text) -> Result<Answe
 {
     match derivation.certificate(alloc) {
         Ok(certificate) => Ok(Answer::Exported(certificate)),
-        Err(derivation) => unfinished(alloc, derivation, out),
+        Err(derivation) => {
+            let Some(hole) = derivation.opened() else {
+                unreachable!()
+            };
+            add_unfinished(alloc, hole.number, out)?;
+            Ok(Answer::Next(Some(derivation)))
+        }
     }
 }
 
-// Adds the refusal of an `export` with a hole open.
-fn unfinished(alloc: Global, derivation: Derivation, out: &mut Text) -> Result<Answer, NoMemory>
-    requires kept { IsKept derivation }
-    requires some { open_hole (derivation_tree derivation).progress ≢ None }
-    ensures { IfOk result (λ answer. AnswersTo (Some (derivation_tree derivation)) export out.old out.new answer) }
+// Adds the reply to an accepted line: `ok`, and the line of the hole that it opens.
+fn add_accepted(alloc: Global, derivation: &Derivation, out: &mut Text) -> Result<(), NoMemory>
+    requires { IsKept derivation.now }
+    ensures { OnOk result (out.new ≡ out.old ++ (codes "ok\n" ++ open_text (derivation_tree derivation.now))) }
 {
-    let Some(hole) = derivation.opened() else {
-        unreachable!()
-    };
-    let number = hole.number.to_string(alloc)?;
+    out.append(b"ok\n")?;
+    derivation.print_open(alloc, out)
+}
+
+// Adds the refusal of an `export` with that hole open.
+fn add_unfinished(alloc: Global, hole: u32, out: &mut Text) -> Result<(), NoMemory>
+    ensures { OnOk result (out.new ≡ out.old ++ unfinished_line hole) }
+{
+    let number = hole.to_string(alloc)?;
     out.append(b"refused Unfinished ")?;
     out.append(number.as_bytes())?;
-    out.append(b"\n")?;
-    Ok(Answer::Next(Some(derivation)))
+    out.append(b"\n")
 }

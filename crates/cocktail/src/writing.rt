@@ -19,7 +19,10 @@ pub fn write_whole<T: Target>(target: &mut T, name: &str, bytes: &[u8]) -> Resul
     target.create(name)?;
     let mut written = 0;
     while written < bytes.len() {
-        written += target.put(tail(bytes, written))?;
+        match target.put(tail(bytes, written)) {
+            Ok(taken) => written += taken,
+            Err(_) => return Err(Failed),
+        }
     }
     Ok(())
 }
