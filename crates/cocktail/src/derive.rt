@@ -10,7 +10,7 @@ ghost use Rattle.cocktail.specs.Ends.{HasDerived, HasNotExported, CannotReply, C
 
 use crate::printing::{print, reported};
 use crate::reading::{ReadFault, read_whole};
-use crate::session::{Played, play};
+use crate::session::play;
 use crate::status::Status;
 use crate::writing::write_whole;
 use cert_codec::{Certificate, encode};
@@ -48,28 +48,23 @@ pub fn derive<I: Origin, T: Target, O: Sink>(
     let Ok(played) = play(alloc, bytes.as_slice()) else {
         return Status::NoMemory;
     };
-    let Played {
-        transcript,
-        exported,
-    } = played;
-    match exported {
-        Some(certificate) => export(alloc, &certificate, &transcript, name, target, out),
-        None => not_exported(transcript, out),
+    match &played.exported {
+        Some(certificate) => export(alloc, certificate, &played.transcript, name, target, out),
+        None => not_exported(&played.transcript, out),
     }
 }
 
 // Prints the transcript of a script without an accepted `export`.
-fn not_exported<O: Sink>(transcript: Text, out: &mut O) -> Status
-    ensures refused { result ≡ Status.Refused → Appends (O.gained out.old) (O.gained out.new) (transcript ++ codes "not exported\n") }
-    ensures out_fault { result ≡ Status.OutFault → Rose (O.faults out.old) (O.faults out.new) × Prints (O.gained out.old) (O.gained out.new) (O.faults out.old) (O.faults out.new) (transcript ++ codes "not exported\n") }
-    ensures silent { result ≡ Status.NoMemory → out.new ≡ out.old }
-    ensures only { (result ≡ Status.Refused) ⊎ ((result ≡ Status.OutFault) ⊎ (result ≡ Status.NoMemory)) }
+fn not_exported<O: Sink>(transcript: &Text, out: &mut O) -> Status
+    ensures refused { result ≡ Status.Refused → Appends (O.gained out.old) (O.gained out.new) (transcript.now ++ codes "not exported\n") }
+    ensures out_fault { result ≡ Status.OutFault → Rose (O.faults out.old) (O.faults out.new) × Prints (O.gained out.old) (O.gained out.new) (O.faults out.old) (O.faults out.new) (transcript.now ++ codes "not exported\n") }
+    ensures only { (result ≢ Status.Done) × (result ≢ Status.Words) × (result ≢ Status.ReadFault) × (result ≢ Status.TargetFault) × (result ≢ Status.NoMemory) × (result ≢ Status.TooLong) }
 {
-    let mut transcript = transcript;
-    if transcript.append(b"not exported\n").is_err() {
-        return Status::NoMemory;
-    }
     match print(out, transcript.as_bytes()) {
+        Ok(()) => (),
+        Err(_) => return Status::OutFault,
+    }
+    match print(out, b"not exported\n") {
         Ok(()) => Status::Refused,
         Err(_) => Status::OutFault,
     }
@@ -94,8 +89,9 @@ fn export<T: Target, O: Sink>(
     ensures target_fault { result ≡ Status.TargetFault → (Rose (T.faults target.old) (T.faults target.new) ⊎ IsOther (T.takes target.old) name.now)
         × HoldsFront (T.written target.old) (T.written target.new) name.now (spell (checked_tree certificate.now))
         × Appends (O.gained out.old) (O.gained out.new) transcript.now }
-    ensures silent { result ≡ Status.NoMemory → (out.new ≡ out.old) × (target.new ≡ target.old) }
-    ensures only { (result ≡ Status.Done) ⊎ ((result ≡ Status.OutFault) ⊎ ((result ≡ Status.TargetFault) ⊎ (result ≡ Status.NoMemory))) }
+    ensures silent { (result ≡ Status.ReadFault) ⊎ (result ≡ Status.NoMemory) → out.new ≡ out.old }
+    ensures untouched { (result ≡ Status.Done) ⊎ ((result ≡ Status.OutFault) ⊎ ((result ≡ Status.TargetFault) ⊎ (target.new ≡ target.old))) }
+    ensures only { (result ≢ Status.Refused) × (result ≢ Status.Words) × (result ≢ Status.ReadFault) × (result ≢ Status.TooLong) }
 {
     let Ok(bytes) = encode(alloc, certificate) else {
         return Status::NoMemory;

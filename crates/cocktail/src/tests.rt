@@ -15,6 +15,9 @@ const SKIP: [u8; 15] = [
     0x43, 0x4B, 0x54, 0x31, 0x00, 0x31, 0x18, 0x31, 0x18, 0x60, 0x41, 0x31, 0x18, 0x40, 0x00,
 ];
 
+// Its four lines.
+const VALID: &str = "valid\n{ true }\nskip\n{ true }\n";
+
 // The same with a hypothesis that is not there, and with a proof of another formula.
 const NO_HYPOTHESIS: [u8; 15] = [
     0x43, 0x4B, 0x54, 0x31, 0x00, 0x31, 0x18, 0x31, 0x18, 0x60, 0x41, 0x31, 0x18, 0x40, 0x01,
@@ -38,26 +41,32 @@ fn list<T: Copy + Drop>(alloc: Global, items: &[T]) -> Result<List<T>, NoMemory>
     Ok(list)
 }
 
-/// The calls that fail on the origin and on the sink, numbered from 0.
+/// The calls that fail on the origin, the target and the sink, numbered from 0.
 #[derive(Drop)]
 struct Faults<'a> {
     reads: &'a [u64],
+    writes: &'a [u64],
     puts: &'a [u64],
 }
 
 const NO_FAULTS: Faults<'static> = Faults {
     reads: &[],
+    writes: &[],
     puts: &[],
 };
 
+/// What a run gives: its status, and the target and the sink.
+#[derive(Drop)]
+struct Ran {
+    status: Status,
+    target: MemTarget,
+    out: MemSink,
+}
+
 /// Runs these words over an origin that has the one file `c` with these bytes and gives at most 4,096 of
-/// them at a time, and a sink that takes five at a time. Answers the status, and the sink.
-fn ran(
-    alloc: Global,
-    words: &[&str],
-    bytes: &[u8],
-    faults: &Faults,
-) -> Result<(Status, MemSink), NoMemory> {
+/// them at a time, a target that takes the name `d` alone and ten bytes at a time, and a sink that takes five
+/// at a time.
+fn ran_with(alloc: Global, words: &[&str], bytes: &[u8], faults: &Faults) -> Result<Ran, NoMemory> {
     let mut line = Vec::new(alloc);
     for word in words {
         line.push(String::from_str(alloc, word)?)?;
@@ -68,9 +77,24 @@ fn ran(
         bytes: list(alloc, bytes)?,
     })?;
     let mut input = MemOrigin::new(files, 4_096, list(alloc, faults.reads)?);
-    let mut target = MemTarget::new(alloc, Text::new(alloc), 1, List::new(alloc));
+    let mut target = MemTarget::new(alloc, text(alloc, b"d")?, 10, list(alloc, faults.writes)?);
     let mut out = MemSink::new(alloc, 5, list(alloc, faults.puts)?);
     let status = cocktail(alloc, line.as_slice(), &mut input, &mut target, &mut out);
+    Ok(Ran {
+        status,
+        target,
+        out,
+    })
+}
+
+/// The same, where nothing is written.
+fn ran(
+    alloc: Global,
+    words: &[&str],
+    bytes: &[u8],
+    faults: &Faults,
+) -> Result<(Status, MemSink), NoMemory> {
+    let Ran { status, out, .. } = ran_with(alloc, words, bytes, faults)?;
     Ok((status, out))
 }
 
@@ -112,8 +136,8 @@ fn rows(rt: HostRuntime) -> Result<(), Fail> {
     let too_deep = nested(rt.alloc(), 2_048)?;
     let too_large = too_large(rt.alloc())?;
     let cases: [(&[u8], Status, &str); 9] = [
-        (&SKIP, Status::Done, "valid\n"),
-        (&APPLICATION, Status::Done, "valid\n"),
+        (&SKIP, Status::Done, VALID),
+        (&APPLICATION, Status::Done, VALID),
         (too_large.as_slice(), Status::Refused, "refused Limits\n"),
         (&[], Status::Refused, "refused Malformed\n"),
         (&SKIP[..14], Status::Refused, "refused Malformed\n"),
@@ -132,13 +156,18 @@ fn rows(rt: HostRuntime) -> Result<(), Fail> {
 
 #[test]
 fn words(rt: HostRuntime) -> Result<(), Fail> {
-    let lines: [&[&str]; 6] = [
+    let lines: [&[&str]; 11] = [
         &[],
         &["check"],
         &["check", ""],
         &["check", "-c"],
         &["check", "c", "c"],
         &["run", "c"],
+        &["derive", "c"],
+        &["derive", "", "d"],
+        &["derive", "c", "-d"],
+        &["derive", "c", "d", "e"],
+        &["Derive", "c", "d"],
     ];
     for line in &lines {
         let (status, out) = ran(rt.alloc(), line, &SKIP, &NO_FAULTS)?;
@@ -157,13 +186,14 @@ fn reads_fail(rt: HostRuntime) -> Result<(), Fail> {
     for call in 0..4u64 {
         let faults = Faults {
             reads: &[call],
+            writes: &[],
             puts: &[],
         };
         let (status, out) = ran(rt.alloc(), &["check", "c"], &SKIP, &faults)?;
         let (wanted, printed) = if call < 3 {
             (Status::ReadFault, "")
         } else {
-            (Status::Done, "valid\n")
+            (Status::Done, VALID)
         };
         assert_eq!(rt; status, wanted);
         assert_eq!(rt; out.bytes(), printed.as_bytes());
@@ -174,10 +204,12 @@ fn reads_fail(rt: HostRuntime) -> Result<(), Fail> {
 /// Each put in turn fails. What was put before is a front of the line, and a refusal stays one.
 #[test]
 fn puts_fail(rt: HostRuntime) -> Result<(), Fail> {
-    let cases: [(&[u8], u64, Status, &str); 7] = [
+    let cases: [(&[u8], u64, Status, &str); 9] = [
         (&SKIP, 0, Status::OutFault, ""),
         (&SKIP, 1, Status::OutFault, "valid"),
-        (&SKIP, 2, Status::Done, "valid\n"),
+        (&SKIP, 2, Status::OutFault, "valid\n{ tr"),
+        (&SKIP, 5, Status::OutFault, "valid\n{ true }\nskip\n{ tru"),
+        (&SKIP, 6, Status::Done, VALID),
         (&[], 0, Status::Refused, ""),
         (&[], 1, Status::Refused, "refus"),
         (&[], 3, Status::Refused, "refused Malform"),
@@ -186,6 +218,7 @@ fn puts_fail(rt: HostRuntime) -> Result<(), Fail> {
     for (bytes, call, wanted, printed) in &cases {
         let faults = Faults {
             reads: &[],
+            writes: &[],
             puts: &[*call],
         };
         let (status, out) = ran(rt.alloc(), &["check", "c"], bytes, &faults)?;
@@ -204,6 +237,156 @@ fn the_limit(rt: HostRuntime) -> Result<(), Fail> {
     assert_eq!(rt; status, Status::Refused);
     assert_eq!(rt; out.bytes(), b"refused Malformed\n".as_slice());
     let (status, out) = ran(rt.alloc(), &["check", "c"], &long, &NO_FAULTS)?;
+    assert_eq!(rt; status, Status::TooLong);
+    assert_eq!(rt; out.bytes(), b"refused TooLong\n".as_slice());
+    Ok(())
+}
+
+// The script of the first certificate, and its transcript before the last reply.
+const SCRIPT: &str = "spec { true } { true }\n1: skip\n2: intro\n3: exact #0\nexport\n";
+
+const TRANSCRIPT: &str =
+    "ok\n  1: { true } { true }\nok\n  2: |- true => true\nok\n  3: #0: true |- true\nok\n";
+
+/// Scripts with their statuses and what is printed.
+#[test]
+fn scripts(rt: HostRuntime) -> Result<(), Fail> {
+    let cases: [(&str, Status, &str); 9] = [
+        ("", Status::Refused, "not exported\n"),
+        ("\n// nothing\n \t\r\n", Status::Refused, "not exported\n"),
+        ("export", Status::Refused, "refused Line\nnot exported\n"),
+        (
+            "spec { true => false } { bottom }\n1: intro\n2: skip\n1: skip\nexport\n",
+            Status::Refused,
+            "ok\n  1: { true => false } { bottom }\nrefused Line\nrefused Line\nok\n  2: |- ~(true => false)\nrefused Unfinished 2\nnot exported\n",
+        ),
+        (
+            "spec { true } { true => true }\n1: skip\n2: intro\n3: intro\n4: exact #1\n",
+            Status::Refused,
+            "ok\n  1: { true } { true => true }\nok\n  2: |- true => true => true\nok\n  3: #0: true |- true => true\nok\n  4: #0: true, #1: true |- true\nok\nnot exported\n",
+        ),
+        (
+            "spec { true } { true }\nspec { true } { true }\n1: skip\n2: exact #0\n2: exact lam(false, #0)\n2: exact app(lam(true => true, #0), lam(true, #0))\n2: intro\n",
+            Status::Refused,
+            "ok\n  1: { true } { true }\nrefused Line\nok\n  2: |- true => true\nrefused Line\nrefused Line\nok\nrefused Line\nnot exported\n",
+        ),
+        (
+            "spec { true } { true }\n1: skip\n2: intro\n3: exact lam(true, #0)\nexport\n",
+            Status::Refused,
+            "ok\n  1: { true } { true }\nok\n  2: |- true => true\nok\n  3: #0: true |- true\nrefused Line\nrefused Unfinished 3\nnot exported\n",
+        ),
+        (
+            "spec { true } { true }\n\n1:skip// no comment\n1:skip\r\nundo\n",
+            Status::Refused,
+            "ok\n  1: { true } { true }\nrefused Line\nok\n  2: |- true => true\nrefused Line\nnot exported\n",
+        ),
+        (
+            "export\nspec { ~true } { false }\nexport\n",
+            Status::Refused,
+            "refused Line\nok\n  1: { ~true } { false }\nrefused Unfinished 1\nnot exported\n",
+        ),
+    ];
+    for (script, wanted, printed) in &cases {
+        let (status, out) = ran(
+            rt.alloc(),
+            &["derive", "c", "d"],
+            script.as_bytes(),
+            &NO_FAULTS,
+        )?;
+        assert_eq!(rt; status, *wanted);
+        assert_eq!(rt; out.bytes(), printed.as_bytes());
+    }
+    Ok(())
+}
+
+/// What is exported is the first certificate, lines behind it are not played, and it is checked.
+#[test]
+fn an_export(rt: HostRuntime) -> Result<(), Fail> {
+    let mut script = Vec::from_slice(rt.alloc(), SCRIPT.as_bytes())?;
+    script.extend_from_slice(b"nonsense\n")?;
+    let run = ran_with(
+        rt.alloc(),
+        &["derive", "c", "d"],
+        script.as_slice(),
+        &NO_FAULTS,
+    )?;
+    assert_eq!(rt; run.status, Status::Done);
+    assert_eq!(rt; run.target.bytes(), SKIP.as_slice());
+    let mut printed = text(rt.alloc(), TRANSCRIPT.as_bytes())?;
+    printed.append(b"exported 15 bytes\n")?;
+    assert_eq!(rt; run.out.bytes(), printed.as_bytes());
+    let (status, _) = ran(rt.alloc(), &["check", "c"], run.target.bytes(), &NO_FAULTS)?;
+    assert_eq!(rt; status, Status::Done);
+    Ok(())
+}
+
+/// Each call on the target in turn fails, and a target of another name. The transcript is printed, and the
+/// file has what was put before.
+#[test]
+fn writes_fail(rt: HostRuntime) -> Result<(), Fail> {
+    for (call, written) in &[(0u64, 0usize), (1, 0), (2, 10)] {
+        let faults = Faults {
+            reads: &[],
+            writes: &[*call],
+            puts: &[],
+        };
+        let run = ran_with(
+            rt.alloc(),
+            &["derive", "c", "d"],
+            SCRIPT.as_bytes(),
+            &faults,
+        )?;
+        assert_eq!(rt; run.status, Status::TargetFault);
+        assert_eq!(rt; run.out.bytes(), TRANSCRIPT.as_bytes());
+        assert_eq!(rt; run.target.bytes().len(), *written);
+    }
+    let run = ran_with(
+        rt.alloc(),
+        &["derive", "c", "e"],
+        SCRIPT.as_bytes(),
+        &NO_FAULTS,
+    )?;
+    assert_eq!(rt; run.status, Status::TargetFault);
+    assert_eq!(rt; run.target.bytes(), b"".as_slice());
+    Ok(())
+}
+
+/// Each put on the sink in turn fails. Before the last reply nothing is written, and with it the file is whole.
+#[test]
+fn replies_fail(rt: HostRuntime) -> Result<(), Fail> {
+    for call in 0..22u64 {
+        let faults = Faults {
+            reads: &[],
+            writes: &[],
+            puts: &[call],
+        };
+        let run = ran_with(
+            rt.alloc(),
+            &["derive", "c", "d"],
+            SCRIPT.as_bytes(),
+            &faults,
+        )?;
+        let status = if call < 20 {
+            Status::OutFault
+        } else {
+            Status::Done
+        };
+        assert_eq!(rt; run.status, status, "put {call}");
+        let written = if call < 16 { 0 } else { 15 };
+        assert_eq!(rt; run.target.bytes().len(), written, "put {call}");
+    }
+    Ok(())
+}
+
+/// A script of line feeds at its limit, and one byte past it; and one of as many refused lines.
+#[test]
+fn long_scripts(rt: HostRuntime) -> Result<(), Fail> {
+    let long = vec![in rt.alloc(); b'\n'; 1_048_577]?;
+    let whole = long.get(..1_048_576).ok_or("room for the limit")?;
+    let (status, out) = ran(rt.alloc(), &["derive", "c", "d"], whole, &NO_FAULTS)?;
+    assert_eq!(rt; status, Status::Refused);
+    assert_eq!(rt; out.bytes(), b"not exported\n".as_slice());
+    let (status, out) = ran(rt.alloc(), &["derive", "c", "d"], &long, &NO_FAULTS)?;
     assert_eq!(rt; status, Status::TooLong);
     assert_eq!(rt; out.bytes(), b"refused TooLong\n".as_slice());
     Ok(())
