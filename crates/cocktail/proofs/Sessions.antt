@@ -1,5 +1,5 @@
 -- What sessions keep, and what they export.
-use Rattle.std.proofs.Common.{◌≡◌, ℕ, ◌+◌, ◌^◌, ◌<◌, ◌≤◌, List, [], ◌∷◌, ◌++◌, length, refl, sym, ap, subst, ◌∙◌, append_assoc, append-nil, Some, None, Option, IfSome, arith}
+use Rattle.std.proofs.Common.{◌≡◌, ℕ, ◌+◌, ◌^◌, ◌<◌, ◌≤◌, List, [], ◌∷◌, ◌++◌, length, refl, sym, ap, subst, ◌∙◌, append_assoc, append-nil, Some, None, Option, IfSome, inl, inr, ◌⊎◌, codes, arith}
 use Rattle.formulas.specs.Tree.{FormulaTree, joined, implies}
 use Rattle.proof_terms.specs.Tree.{ProofTree}
 use Rattle.cert_codec.specs.Tree.{CertificateTree, skip as skip_node}
@@ -9,13 +9,14 @@ use Rattle.ck_text.specs.Lines.{LineTree, spec, skip, intro, exact, export, Mean
 use Rattle.ck_text.specs.declared.lines.OpenHole.{OpenHole}
 use Rattle.derivation.specs.Derivation.{ProgressTree, programming, proving, finished, DerivationTree, open_hole, levels, certificate_of}
 use Rattle.derivation.specs.Steps.{Exports}
+use Rattle.derivation.specs.Printing.{open_text}
 use Rattle.derivation.specs.Derived.{IsDerived, AnswersFor}
 use Rattle.derivation.proofs.Derived.{begun_derived, skip_derived, intro_derived, exact_derived, exports_are_valid}
-use Rattle.cocktail.specs.Session.{State, open_of, Accepts, RepliesTo, accepted, unfinished, refused, Replies, passed, meant, unread, IsExported, Leads, IsCut}
+use Rattle.cocktail.specs.Session.{State, open_of, refused_line, unfinished_line, Accepts, RepliesTo, accepted, unfinished, refused, Replies, passed, meant, unread, IsExported, Leads, IsCut}
 use Rattle.cocktail.specs.declared.session.Answer.{Answer}
 use Rattle.cocktail.specs.declared.session.Answer.TheVariants.{Next, Exported}
 use Rattle.cocktail.specs.Answers.{MayBe, AnswersTo, Answers}
-use Rattle.cocktail.specs.Laws.{IsComplete, ExportIsExact, ExportIsValid}
+use Rattle.cocktail.specs.Laws.{IsComplete, ExportIsExact, ExportIsValid, RefusalsChangeNothing}
 use Rattle.cocktail.proofs.Lines.{may_be}
 
 -- one line more
@@ -84,6 +85,33 @@ export_is_exact lines transcript d line l means =
           (ap open_hole done, x.1.exports.p, done, answers.0),
       λ y. (certificate_of d y.1, record { means = means; d = d; is = refl; exports = record { p = y.1; done = y.2; is = refl } }),
     )
+
+-- ---- refusals
+
+abbrev first_byte : List ℕ → ℕ
+first_byte [] = 0
+first_byte (b ∷ bytes) = b
+
+-- a reply that begins with `ok` is no refusal
+accepted_apart : (reply rest : List ℕ) → reply ≡ codes "ok\n" ++ rest → (reply ≡ refused_line) ⊎ ((hole : ℕ) × (reply ≡ unfinished_line hole)) → ⊥
+accepted_apart reply rest is (inl e) =
+    let one : first_byte reply ≡ 111 = ap first_byte is in
+    let other : first_byte reply ≡ 114 = ap first_byte e in
+    omega (arith, one, other)
+accepted_apart reply rest is (inr (hole, e)) =
+    let one : first_byte reply ≡ 111 = ap first_byte is in
+    let other : first_byte reply ≡ 114 = ap first_byte e in
+    omega (arith, one, other)
+
+refused_to : (state : State) (tree : LineTree) (reply : List ℕ) (next : State) → RepliesTo state tree reply next → (reply ≡ refused_line) ⊎ ((hole : ℕ) × (reply ≡ unfinished_line hole)) → next ≡ state
+refused_to state tree reply next (accepted d a is text) r = absurd (accepted_apart reply (open_text d) text r)
+refused_to state tree reply next (unfinished d hole e s o text is) r = is
+refused_to state tree reply next (refused none e text is) r = is
+
+pub refusals_change_nothing : RefusalsChangeNothing
+refusals_change_nothing state line reply next (passed blank text is) r = is
+refusals_change_nothing state line reply next (meant tree m a) r = refused_to state tree reply next a r
+refusals_change_nothing state line reply next (unread full none text is) r = is
 
 -- the sessions of a script's lines up to a place
 pub record IsUnderway (lines later : List (List ℕ)) (transcript : List ℕ) (state : State) : Type 0 where

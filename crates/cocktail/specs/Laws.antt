@@ -1,5 +1,5 @@
 -- What holds of sessions.
-use Rattle.std.specs.Prelude.{◌≡◌, ℕ, List, [], None, Some, ◌↔◌}
+use Rattle.std.specs.Prelude.{◌≡◌, ◌⊎◌, ℕ, List, [], None, Some, ◌↔◌}
 use Rattle.std.specs.declared.option.Option.{Option}
 use Rattle.cert_codec.specs.Tree.{CertificateTree, skip}
 use Rattle.cert_codec.specs.Spelling.{spell}
@@ -8,7 +8,7 @@ use Rattle.cert_check.specs.Valid.{IsFileOf}
 use Rattle.proof_terms.specs.Tree.{ProofTree}
 use Rattle.ck_text.specs.Lines.{export, Means}
 use Rattle.derivation.specs.Derivation.{DerivationTree, finished, open_hole}
-use Rattle.cocktail.specs.Session.{State, open_of, Leads, IsExported}
+use Rattle.cocktail.specs.Session.{State, open_of, Replies, refused_line, unfinished_line, Leads, IsExported}
 
 -- no hole is open, and the one obligation's proof has its formula
 abbrev pub IsComplete : DerivationTree → Type 0
@@ -27,3 +27,9 @@ abbrev pub ExportIsValid : Type 0
 ExportIsValid =
     (lines : List (List ℕ)) (transcript : List ℕ) (state : State) (line : List ℕ) (c : CertificateTree)
     → Leads None lines transcript state → IsExported state line c → IsFileOf c (spell c)
+
+-- a line whose reply is a refusal leaves the state as it was
+abbrev pub RefusalsChangeNothing : Type 0
+RefusalsChangeNothing =
+    (state : State) (line reply : List ℕ) (next : State)
+    → Replies state line reply next → (reply ≡ refused_line) ⊎ ((hole : ℕ) × (reply ≡ unfinished_line hole)) → next ≡ state

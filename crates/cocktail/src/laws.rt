@@ -1,6 +1,6 @@
 //! What is proved of sessions beyond single scripts. Each statement is in `specs/Laws.antt`.
 
-ghost use Rattle.cocktail.specs.Laws.{ExportIsExact, ExportIsValid};
+ghost use Rattle.cocktail.specs.Laws.{ExportIsExact, ExportIsValid, RefusalsChangeNothing};
 
 /// `export` is accepted exactly where no hole is open and every obligation's proof has its formula.
 pub fn export_is_exact()
@@ -10,4 +10,9 @@ pub fn export_is_exact()
 /// What is exported is a valid file.
 pub fn export_is_valid()
     ensures { ExportIsValid }
+{}
+
+/// A line whose reply is a refusal leaves the session's state as it was.
+pub fn refusals_change_nothing()
+    ensures { RefusalsChangeNothing }
 {}

@@ -4,6 +4,7 @@ ghost use Rattle.std.specs.Prelude.{◌≡◌, ◌≢◌, ◌⊎◌, ◌↔◌, 
 ghost use Rattle.std.specs.String.{string_bytes};
 ghost use Rattle.ck_base.specs.Outside.{Rose, fresh};
 ghost use Rattle.cocktail.specs.Commands.{command_of, line, Prints};
+ghost use Rattle.cocktail.specs.Laws.{ExportIsExact, RefusalsChangeNothing};
 ghost use Rattle.cocktail.specs.Ends.{HasChecked, HasComplained, CannotTell, HasDerived, HasNotExported, CannotReply, CannotWrite, IsForeign, FindsNone, IsTooLong};
 
 use crate::check::check;
@@ -35,6 +36,11 @@ pub fn cocktail<I: Origin, T: Target, O: Sink>(
     ensures refused { result ≡ Status.Refused →
         HasComplained (command_of (map string_bytes words.now)) (I.files input.old) (I.left input.new) (O.gained out.old) (O.gained out.new) (O.faults out.old) (O.faults out.new)
         ⊎ HasNotExported (command_of (map string_bytes words.now)) (I.files input.old) (I.left input.new) (O.gained out.old) (O.gained out.new) }
+
+    // In every session `export` is accepted exactly where no hole is open and every obligation's proof has its
+    // formula, and a refused line changes nothing.
+    ensures export_is_exact { ExportIsExact }
+    ensures refusals_change_nothing { RefusalsChangeNothing }
 
     // The words are no command, which was printed.
     ensures words { (result ≡ Status.Words) ↔ (command_of (map string_bytes words.now) ≡ None) }
