@@ -57,7 +57,7 @@ const NO_FAULTS: Faults<'static> = Faults {
 
 /// What a run gives: its status, and the target and the sink.
 #[derive(Drop)]
-struct Ran {
+struct Outcome {
     status: Status,
     target: MemTarget,
     out: MemSink,
@@ -66,7 +66,12 @@ struct Ran {
 /// Runs these words over an origin that has the one file `c` with these bytes and gives at most 4,096 of
 /// them at a time, a target that takes the name `d` alone and ten bytes at a time, and a sink that takes five
 /// at a time.
-fn ran_with(alloc: Global, words: &[&str], bytes: &[u8], faults: &Faults) -> Result<Ran, NoMemory> {
+fn ran_with(
+    alloc: Global,
+    words: &[&str],
+    bytes: &[u8],
+    faults: &Faults,
+) -> Result<Outcome, NoMemory> {
     let mut line = Vec::new(alloc);
     for word in words {
         line.push(String::from_str(alloc, word)?)?;
@@ -80,7 +85,7 @@ fn ran_with(alloc: Global, words: &[&str], bytes: &[u8], faults: &Faults) -> Res
     let mut target = MemTarget::new(alloc, text(alloc, b"d")?, 10, list(alloc, faults.writes)?);
     let mut out = MemSink::new(alloc, 5, list(alloc, faults.puts)?);
     let status = cocktail(alloc, line.as_slice(), &mut input, &mut target, &mut out);
-    Ok(Ran {
+    Ok(Outcome {
         status,
         target,
         out,
@@ -94,7 +99,7 @@ fn ran(
     bytes: &[u8],
     faults: &Faults,
 ) -> Result<(Status, MemSink), NoMemory> {
-    let Ran { status, out, .. } = ran_with(alloc, words, bytes, faults)?;
+    let Outcome { status, out, .. } = ran_with(alloc, words, bytes, faults)?;
     Ok((status, out))
 }
 
