@@ -37,57 +37,55 @@ fn spec_of(alloc: Global, formula: &[u8]) -> Result<Vec<u8>, NoMemory> {
     Ok(line)
 }
 
-/// What is read, and how it is printed.
+/// Whether the formula is read in both places, and printed so.
+fn reads_and_prints(alloc: Global, formula: &[u8], wanted: &[u8]) -> Result<bool, NoMemory> {
+    let line = spec_of(alloc, formula)?;
+    match read_line(alloc, None, line.as_slice()) {
+        Ok(Line::Spec { pre, post }) => {
+            let pre = printed(alloc, &pre)?;
+            let post = printed(alloc, &post)?;
+            Ok(pre.as_bytes() == wanted && post.as_bytes() == wanted)
+        }
+        _ => Ok(false),
+    }
+}
+
 #[test]
 fn formulas_are_read_and_printed(rt: HostRuntime) -> Result<(), Fail> {
-    let cases: [(&[u8], &[u8]); 10] = [
-        (b"true", b"true"),
-        (b" (( bottom)) ", b"bottom"),
-        (b"true=>false=>bottom", b"true => ~false"),
-        (b"true => (false => true)", b"true => false => true"),
-        (b"(true => false) => true", b"(true => false) => true"),
-        (b"~~true", b"~~true"),
-        (b"~(true => bottom)", b"~~true"),
-        (b"~true => false", b"~true => false"),
-        (b"~(true => false)", b"~(true => false)"),
-        (b"true => bottom => bottom", b"true => ~bottom"),
-    ];
-    for (text, wanted) in &cases {
-        let line = spec_of(rt.alloc(), text)?;
-        let Ok(Line::Spec { pre, post }) = read_line(rt.alloc(), None, line.as_slice()) else {
-            return Err("a formula is not read".into());
-        };
-        assert_eq!(rt; printed(rt.alloc(), &pre)?.as_bytes(), *wanted);
-        assert_eq!(rt; printed(rt.alloc(), &post)?.as_bytes(), *wanted);
-    }
+    let alloc = rt.alloc();
+    assert!(rt; reads_and_prints(alloc, b" (( bottom)) ", b"bottom")?);
+    assert!(rt; reads_and_prints(alloc, b"true=>false=>bottom", b"true => ~false")?);
+    assert!(rt;
+        reads_and_prints(
+            alloc,
+            b"(true => false) => true",
+            b"(true => false) => true"
+        )?
+    );
+    assert!(rt; reads_and_prints(alloc, b"~(true => bottom)", b"~~true")?);
+    assert!(rt;
+        reads_and_prints(
+            alloc,
+            b"~true => (false => true)",
+            b"~true => false => true"
+        )?
+    );
+    assert!(rt; reads_and_prints(alloc, b"~(true => false)", b"~(true => false)")?);
     Ok(())
 }
 
 #[test]
 fn lines_that_mean_nothing(rt: HostRuntime) {
-    let lines: [&[u8]; 18] = [
-        b"",
-        b"spec { true }",
-        b"spec { true } { true",
-        b"spec { true } { true } true",
-        b"spec { true => } { true }",
-        b"spec { true true } { true }",
-        b"spec { ~(true } { true }",
-        b"spec { truex } { true }",
-        b"spec { true > true } { true }",
-        b"1 skip",
-        b"1: skip 2",
-        b"1:= skip",
-        b"4294967296: skip",
-        b"3: exact",
-        b"3: exact #2",
-        b"3: exact lam(true #0)",
-        b"3: exact app(#0, #1",
-        b"export export",
-    ];
-    for line in &lines {
-        assert!(rt; is_unread(rt.alloc(), line));
-    }
+    let alloc = rt.alloc();
+    assert!(rt; is_unread(alloc, b"spec { true }"));
+    assert!(rt; is_unread(alloc, b"spec { true } { true } true"));
+    assert!(rt; is_unread(alloc, b"spec { ~(true } { true }"));
+    assert!(rt; is_unread(alloc, b"spec { truex } { true }"));
+    assert!(rt; is_unread(alloc, b"1:= skip"));
+    assert!(rt; is_unread(alloc, b"4294967296: skip"));
+    assert!(rt; is_unread(alloc, b"3: exact #2"));
+    assert!(rt; is_unread(alloc, b"3: exact app(#0, #1"));
+    assert!(rt; is_unread(alloc, b"export export"));
 }
 
 /// Hypotheses are counted from the oldest in a text, and from the newest in a tree.
@@ -157,63 +155,58 @@ fn after(alloc: Global, byte: u8, count: usize, text: &[u8]) -> Result<Vec<u8>, 
     Ok(bytes)
 }
 
-/// 512 levels of nesting, 256 of depth, 8,192 bytes and the bytes of text, each at its limit and past it.
+/// A line with so many signs `~` before its formulas.
+fn denials(alloc: Global, count: usize) -> Result<Vec<u8>, NoMemory> {
+    spec_of(alloc, after(alloc, b'~', count, b"true")?.as_slice())
+}
+
+/// A line with so many parentheses around its formulas.
+fn parentheses(alloc: Global, count: usize) -> Result<Vec<u8>, NoMemory> {
+    let mut formula = after(alloc, b'(', count, b"true")?;
+    formula.extend_from_slice(after(alloc, b')', count, b"")?.as_slice())?;
+    spec_of(alloc, formula.as_slice())
+}
+
+/// 256 levels of depth, 512 of nesting and 8,192 bytes, each at its limit and past it.
 #[test]
 fn limits(rt: HostRuntime) -> Result<(), Fail> {
-    for (signs, is_read) in &[(254usize, true), (255, false)] {
-        let line = spec_of(
-            rt.alloc(),
-            after(rt.alloc(), b'~', *signs, b"true")?.as_slice(),
-        )?;
-        assert_eq!(rt; is_unread(rt.alloc(), line.as_slice()), !*is_read);
-    }
-    for (levels, is_read) in &[(512usize, true), (513, false)] {
-        let mut formula = after(rt.alloc(), b'(', *levels, b"true")?;
-        formula.extend_from_slice(after(rt.alloc(), b')', *levels, b"")?.as_slice())?;
-        let line = spec_of(rt.alloc(), formula.as_slice())?;
-        assert_eq!(rt; is_unread(rt.alloc(), line.as_slice()), !*is_read);
-    }
-    for (blanks, is_read) in &[(8_186usize, true), (8_187, false)] {
-        let line = after(rt.alloc(), b' ', *blanks, b"export")?;
-        assert_eq!(rt; is_unread(rt.alloc(), line.as_slice()), !*is_read);
-    }
-    for byte in &[b'\r', 127u8, 128, 31, 0] {
-        assert!(rt; is_unread(rt.alloc(), &[b'e', b'x', b'p', b'o', b'r', b't', *byte]));
-    }
+    let alloc = rt.alloc();
+    assert!(rt; !is_unread(alloc, denials(alloc, 254)?.as_slice()));
+    assert!(rt; is_unread(alloc, denials(alloc, 255)?.as_slice()));
+    assert!(rt; !is_unread(alloc, parentheses(alloc, 512)?.as_slice()));
+    assert!(rt; is_unread(alloc, parentheses(alloc, 513)?.as_slice()));
+    assert!(rt; !is_unread(alloc, after(alloc, b' ', 8_186, b"export")?.as_slice()));
+    assert!(rt; is_unread(alloc, after(alloc, b' ', 8_187, b"export")?.as_slice()));
+    assert!(rt; is_unread(alloc, b"export\r"));
+    assert!(rt; is_unread(alloc, b"export\x7F"));
     Ok(())
 }
 
 #[test]
 fn blank_lines(rt: HostRuntime) -> Result<(), Fail> {
-    for line in &[b"".as_slice(), b" \t", b"  // export", b"//"] {
-        assert!(rt; is_blank_line(line));
-    }
-    for line in &[b"/ /".as_slice(), b"x", b"/", b"\r", b"// \x7F"] {
-        assert!(rt; !is_blank_line(line));
-    }
-    assert!(rt; is_blank_line(after(rt.alloc(), b' ', 8_192, b"")?.as_slice()));
-    assert!(rt; !is_blank_line(after(rt.alloc(), b' ', 8_193, b"")?.as_slice()));
+    assert!(rt; is_blank_line(b""));
+    assert!(rt; is_blank_line(b"  // export"));
+    assert!(rt; !is_blank_line(b"/ /"));
+    assert!(rt; !is_blank_line(b"// \x7F"));
+    let alloc = rt.alloc();
+    assert!(rt; is_blank_line(after(alloc, b' ', 8_192, b"")?.as_slice()));
+    assert!(rt; !is_blank_line(after(alloc, b' ', 8_193, b"")?.as_slice()));
     Ok(())
+}
+
+/// Whether these are the first line of the script and the rest.
+fn begins(script: &[u8], first: &[u8], rest: &[u8]) -> bool {
+    match next_line(script) {
+        Some((line, more)) => line == first && more == rest,
+        None => false,
+    }
 }
 
 #[test]
 fn scripts(rt: HostRuntime) {
     assert!(rt; next_line(b"").is_none());
-    let cases: [(&[u8], &[u8], &[u8]); 6] = [
-        (b"\n", b"", b""),
-        (b"a\nb", b"a", b"b"),
-        (b"a\r\n\n", b"a", b"\n"),
-        (b"a\r\r\nb", b"a\r", b"b"),
-        (b"a\r", b"a\r", b""),
-        (b"ab", b"ab", b""),
-    ];
-    for (script, first, rest) in &cases {
-        match next_line(script) {
-            Some((line, more)) => {
-                assert_eq!(rt; line, *first);
-                assert_eq!(rt; more, *rest);
-            }
-            None => assert!(rt; false),
-        }
-    }
+    assert!(rt; begins(b"\n", b"", b""));
+    assert!(rt; begins(b"a\r\n\n", b"a", b"\n"));
+    assert!(rt; begins(b"a\r\r\nb", b"a\r", b"b"));
+    assert!(rt; begins(b"a\r", b"a\r", b""));
 }

@@ -253,54 +253,46 @@ const SCRIPT: &str = "spec { true } { true }\n1: skip\n2: intro\n3: exact #0\nex
 const TRANSCRIPT: &str =
     "ok\n  1: { true } { true }\nok\n  2: |- true => true\nok\n  3: #0: true |- true\nok\n";
 
-/// Scripts with their statuses and what is printed.
+/// Whether the script has no accepted `export`, and is answered so.
+fn answers(alloc: Global, script: &str, printed: &str) -> Result<bool, NoMemory> {
+    let (status, out) = ran(alloc, &["derive", "c", "d"], script.as_bytes(), &NO_FAULTS)?;
+    Ok(status == Status::Refused && out.bytes() == printed.as_bytes())
+}
+
 #[test]
 fn scripts(rt: HostRuntime) -> Result<(), Fail> {
-    let cases: [(&str, Status, &str); 9] = [
-        ("", Status::Refused, "not exported\n"),
-        ("\n// nothing\n \t\r\n", Status::Refused, "not exported\n"),
-        ("export", Status::Refused, "refused Line\nnot exported\n"),
-        (
-            "spec { true => false } { bottom }\n1: intro\n2: skip\n1: skip\nexport\n",
-            Status::Refused,
-            "ok\n  1: { true => false } { bottom }\nrefused Line\nrefused Line\nok\n  2: |- ~(true => false)\nrefused Unfinished 2\nnot exported\n",
-        ),
-        (
-            "spec { true } { true => true }\n1: skip\n2: intro\n3: intro\n4: exact #1\n",
-            Status::Refused,
+    let alloc = rt.alloc();
+    assert!(rt; answers(alloc, "", "not exported\n")?);
+    assert!(rt; answers(alloc, "\n// nothing\n \t\r\n", "not exported\n")?);
+    assert!(rt; answers(alloc, "export", "refused Line\nnot exported\n")?);
+    assert!(rt;
+        answers(
+            alloc,
+            "spec { true } { bottom }\n1: intro\n2: skip\n1: skip\nexport\n",
+            "ok\n  1: { true } { bottom }\nrefused Line\nrefused Line\nok\n  2: |- ~true\nrefused Unfinished 2\nnot exported\n",
+        )?
+    );
+    Ok(())
+}
+
+/// Two hypotheses, a second triple, and proofs of another formula.
+#[test]
+fn proofs(rt: HostRuntime) -> Result<(), Fail> {
+    let alloc = rt.alloc();
+    assert!(rt;
+        answers(
+            alloc,
+            "spec { true } { true => true }\n1:skip\n2:intro\n3:intro\n4:exact #1\n",
             "ok\n  1: { true } { true => true }\nok\n  2: |- true => true => true\nok\n  3: #0: true |- true => true\nok\n  4: #0: true, #1: true |- true\nok\nnot exported\n",
-        ),
-        (
-            "spec { true } { true }\nspec { true } { true }\n1: skip\n2: exact #0\n2: exact lam(false, #0)\n2: exact app(lam(true => true, #0), lam(true, #0))\n2: intro\n",
-            Status::Refused,
-            "ok\n  1: { true } { true }\nrefused Line\nok\n  2: |- true => true\nrefused Line\nrefused Line\nok\nrefused Line\nnot exported\n",
-        ),
-        (
-            "spec { true } { true }\n1: skip\n2: intro\n3: exact lam(true, #0)\nexport\n",
-            Status::Refused,
-            "ok\n  1: { true } { true }\nok\n  2: |- true => true\nok\n  3: #0: true |- true\nrefused Line\nrefused Unfinished 3\nnot exported\n",
-        ),
-        (
-            "spec { true } { true }\n\n1:skip// no comment\n1:skip\r\nundo\n",
-            Status::Refused,
-            "ok\n  1: { true } { true }\nrefused Line\nok\n  2: |- true => true\nrefused Line\nnot exported\n",
-        ),
-        (
-            "export\nspec { ~true } { false }\nexport\n",
-            Status::Refused,
-            "refused Line\nok\n  1: { ~true } { false }\nrefused Unfinished 1\nnot exported\n",
-        ),
-    ];
-    for (script, wanted, printed) in &cases {
-        let (status, out) = ran(
-            rt.alloc(),
-            &["derive", "c", "d"],
-            script.as_bytes(),
-            &NO_FAULTS,
-        )?;
-        assert_eq!(rt; status, *wanted);
-        assert_eq!(rt; out.bytes(), printed.as_bytes());
-    }
+        )?
+    );
+    assert!(rt;
+        answers(
+            alloc,
+            "spec { true } { true }\nspec { true } { true }\n1:skip\n2:exact lam(false, #0)\n2:exact lam(true, #0)\nundo\n",
+            "ok\n  1: { true } { true }\nrefused Line\nok\n  2: |- true => true\nrefused Line\nok\nrefused Line\nnot exported\n",
+        )?
+    );
     Ok(())
 }
 
