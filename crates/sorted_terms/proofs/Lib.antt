@@ -1,3 +1,4 @@
 pub mod Sizes
 pub mod Reversal
 pub mod Places
+pub mod Saturation

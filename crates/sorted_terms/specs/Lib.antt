@@ -2,4 +2,5 @@ pub mod Tree
 pub mod Values
 pub mod Sorts
 pub mod Substitution
+pub mod Weights
 pub mod Variables

@@ -1,6 +1,24 @@
 -- Substitution on terms, with de Bruijn indices.
-use Rattle.std.specs.Prelude.{ℕ, ◌+◌, ◌-◌, nat_lt, ◌==◌, if◌then◌else◌}
+use Rattle.std.specs.Prelude.{ℕ, ◌+◌, ◌-◌, ◌<◌, nat_lt, Bool, false, ◌||◌, ◌==◌, if◌then◌else◌}
 use Rattle.sorted_terms.specs.Tree.{TermTree, name, index, integer, boolean, unary, binary}
+
+-- the index stands in the term
+abbrev pub occurs_term : ℕ → TermTree → Bool
+occurs_term k (name x) = false
+occurs_term k (index j) = j == k
+occurs_term k (integer n) = false
+occurs_term k (boolean b) = false
+occurs_term k (unary sign t) = occurs_term k t
+occurs_term k (binary sign s t) = occurs_term k s || occurs_term k t
+
+-- every index of the term is below `bound`
+abbrev pub HasTermIndicesBelow : ℕ → TermTree → Type 0
+HasTermIndicesBelow bound (name x) = Unit {0}
+HasTermIndicesBelow bound (index k) = k < bound
+HasTermIndicesBelow bound (integer n) = Unit {0}
+HasTermIndicesBelow bound (boolean b) = Unit {0}
+HasTermIndicesBelow bound (unary sign t) = HasTermIndicesBelow bound t
+HasTermIndicesBelow bound (binary sign s t) = HasTermIndicesBelow bound s × HasTermIndicesBelow bound t
 
 -- every index that is at least `above` goes up by `by`
 abbrev pub shift_term : TermTree → ℕ → ℕ → TermTree

@@ -44,3 +44,23 @@ term_tree (AtMost' p s q t) = binary at_most (term_tree s) (term_tree t)
 term_tree (Not' p t) = unary denial (term_tree t)
 term_tree (Both' p s q t) = binary both (term_tree s) (term_tree t)
 term_tree (Either' p s q t) = binary either (term_tree s) (term_tree t)
+
+-- a sign before one term
+abbrev pub IsUnary : TermTree → Type 0
+IsUnary (unary sign t) = Unit {0}
+IsUnary t = ⊥
+
+-- a sign between two terms
+abbrev pub IsBinary : TermTree → Type 0
+IsBinary (binary sign s t) = Unit {0}
+IsBinary t = ⊥
+
+-- the term's own sign, over another part
+abbrev pub with_part : TermTree → TermTree → TermTree
+with_part (unary sign t) part = unary sign part
+with_part t part = t
+
+-- the term's own sign, between two other parts
+abbrev pub with_parts : TermTree → TermTree → TermTree → TermTree
+with_parts (binary sign s t) left right = binary sign left right
+with_parts t left right = t

@@ -7,13 +7,16 @@
 
 pub mod copying;
 pub mod measures;
+pub mod signs;
 pub mod sorts;
+pub mod substitution;
 pub mod term;
 pub mod variables;
 
 pub use copying::{copy, same};
 pub use measures::{depth, size, spend};
 pub use sorts::{BadSort, sort_of, sort_under};
+pub use substitution::{instantiate, replace_var, shift};
 pub use term::Term;
 pub use variables::{Variables, sort_at};
 
