@@ -3,3 +3,4 @@ pub mod Values
 pub mod Sorts
 pub mod Substitution
 pub mod Variables
+pub mod Laws

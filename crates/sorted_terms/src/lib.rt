@@ -3,9 +3,11 @@
 //! It stands on `ck_base`. Its definitions are in `specs/`: the tree of a term (`Tree.antt`), the values
 //! of terms (`Values.antt`), their sorts, size and depth, and the place of a fault (`Sorts.antt`), scopes
 //! of bound variables (`Variables.antt`), and substitution (`Substitution.antt`).
+//! What substitution does to values and sorts are the laws of `laws` (`Laws.antt`).
 #![tactic(auto)]
 
 pub mod copying;
+pub mod laws;
 pub mod measures;
 pub mod sorts;
 pub mod term;
