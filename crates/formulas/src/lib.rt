@@ -2,12 +2,14 @@
 //!
 //! It stands on `sorted_terms`. Its definitions are in `specs/`: the tree of a formula (`Tree.antt`),
 //! its truth (`Truth.antt`), sorting and size (`Sorts.antt`), substitution (`Substitution.antt`), and
-//! what a context stands for (`Context.antt`).
+//! what a context stands for (`Context.antt`). What substitution does to truth and sorts, and that truth
+//! without quantifiers is computed (`Computed.antt`), are the laws of `laws` (`Laws.antt`).
 #![tactic(auto)]
 
 pub mod context;
 pub mod copying;
 pub mod formula;
+pub mod laws;
 pub mod measures;
 pub mod sorts;
 
