@@ -32,3 +32,22 @@ formula_tree (Ex' s p a) = quantified there_is s (formula_tree a)
 -- negation
 abbrev pub not_so : FormulaTree → FormulaTree
 not_so a = joined implies a bottom
+
+-- a connective, and a quantifier
+abbrev pub IsJoined : FormulaTree → Type 0
+IsJoined (joined c a b) = Unit {0}
+IsJoined a = ⊥
+
+abbrev pub IsQuantified : FormulaTree → Type 0
+IsQuantified (quantified q s a) = Unit {0}
+IsQuantified a = ⊥
+
+-- the formula's own connective, between two other parts
+abbrev pub with_parts : FormulaTree → FormulaTree → FormulaTree → FormulaTree
+with_parts (joined c a b) left right = joined c left right
+with_parts a left right = a
+
+-- the formula's own quantifier, over another part
+abbrev pub with_part : FormulaTree → FormulaTree → FormulaTree
+with_part (quantified q s a) part = quantified q s part
+with_part a part = a

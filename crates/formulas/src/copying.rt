@@ -1,49 +1,32 @@
 //! Copies of formulas, and whether two formulas are the same.
 
-ghost use Rattle.std.specs.Prelude.{◌≡◌, ◌↔◌, IsTrue, IfOk};
+ghost use Rattle.std.specs.Prelude.{◌≡◌, ◌↔◌, ◌^◌, IsTrue, IfOk, OnOk};
 ghost use Rattle.formulas.specs.Tree.{formula_tree};
+ghost use Rattle.formulas.specs.Substitution.{HasIndicesBelow};
 
 use crate::formula::Formula;
+use crate::signs::{with_part, with_parts};
 use ck_base::NoMemory;
 use std::alloc::Global;
 
-/// A copy of the formula; `NoMemory` where memory for a node was refused.
+/// A copy of the formula, whose indices are words of 32 bits; `NoMemory` where memory for a node was refused.
 pub fn copy(alloc: Global, a: &Formula) -> Result<Formula, NoMemory>
-    ensures { IfOk result (λ r. formula_tree r ≡ formula_tree a.now) }
+    ensures copy { IfOk result (λ r. formula_tree r ≡ formula_tree a.now) }
+    ensures words { OnOk result (HasIndicesBelow (2 ^ 32) (formula_tree a.now)) }
 {
     match a {
         Formula::Bottom => Ok(Formula::Bottom),
         Formula::Holds(t) => Ok(Formula::Holds(sorted_terms::copy(alloc, t)?)),
-        Formula::Imp(a, b) => {
-            let a = boxed(alloc, copy(alloc, a)?)?;
-            let b = boxed(alloc, copy(alloc, b)?)?;
-            Ok(Formula::Imp(a, b))
+        Formula::Imp(left, right) | Formula::Conj(left, right) | Formula::Disj(left, right) => {
+            let left = copy(alloc, left)?;
+            let right = copy(alloc, right)?;
+            with_parts(alloc, a, left, right)
         }
-        Formula::Conj(a, b) => {
-            let a = boxed(alloc, copy(alloc, a)?)?;
-            let b = boxed(alloc, copy(alloc, b)?)?;
-            Ok(Formula::Conj(a, b))
-        }
-        Formula::Disj(a, b) => {
-            let a = boxed(alloc, copy(alloc, a)?)?;
-            let b = boxed(alloc, copy(alloc, b)?)?;
-            Ok(Formula::Disj(a, b))
-        }
-        Formula::All(sort, a) => {
-            let a = boxed(alloc, copy(alloc, a)?)?;
-            Ok(Formula::All(*sort, a))
-        }
-        Formula::Ex(sort, a) => {
-            let a = boxed(alloc, copy(alloc, a)?)?;
-            Ok(Formula::Ex(*sort, a))
+        Formula::All(_, part) | Formula::Ex(_, part) => {
+            let part = copy(alloc, part)?;
+            with_part(alloc, a, part)
         }
     }
-}
-
-fn boxed(alloc: Global, a: Formula) -> Result<Box<Formula>, NoMemory>
-    ensures { IfOk result (λ b. b.value ≡ a) }
-{
-    Ok(Box::new(alloc, a)?)
 }
 
 /// Whether two formulas are the same. It takes no memory.

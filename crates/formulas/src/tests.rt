@@ -1,3 +1,8 @@
+ghost use Rattle.std.specs.Prelude.{◌≡◌, IfOk};
+ghost use Rattle.sorted_terms.specs.Tree.{term_tree, binary, less as less_sign};
+ghost use Rattle.formulas.specs.Tree.{formula_tree, holds};
+ghost use Rattle.formulas.specs.Substitution.{HasIndicesBelow};
+
 use super::*;
 use ck_base::{Decls, List, NoMemory, Sort};
 use sorted_terms::Term;
@@ -17,13 +22,43 @@ fn never_three(alloc: Global) -> Result<Formula, NoMemory> {
     Ok(Formula::All(Sort::Int, Box::new(alloc, never)?))
 }
 
-/// Quantifiers over `Bottom`.
-fn levels(alloc: Global, count: u32) -> Result<Formula, NoMemory> {
+/// `s < t`, as a formula.
+fn less(alloc: Global, s: Term, t: Term) -> Result<Formula, NoMemory>
+    ensures { IfOk result (λ a. formula_tree a ≡ holds (binary less_sign (term_tree s) (term_tree t))) }
+{
+    let less = Term::Less(Box::new(alloc, s)?, Box::new(alloc, t)?);
+    Ok(Formula::Holds(less))
+}
+
+/// Quantifiers over `Bottom`, without any index.
+fn levels(alloc: Global, count: u32) -> Result<Formula, NoMemory>
+    ensures { IfOk result (λ a. HasIndicesBelow 0 (formula_tree a)) }
+{
     let mut a = Formula::Bottom;
     for _ in 1..count {
         a = Formula::Ex(Sort::Int, Box::new(alloc, a)?);
     }
     Ok(a)
+}
+
+/// Conjunctions over that many doublings of `Bottom`.
+fn doubled(alloc: Global, doublings: u32) -> Result<Formula, NoMemory> {
+    let mut a = Formula::Bottom;
+    for _ in 0..doublings {
+        let copied = copy(alloc, &a)?;
+        a = Formula::Conj(Box::new(alloc, a)?, Box::new(alloc, copied)?);
+    }
+    Ok(a)
+}
+
+/// Sums over that many doublings of `1`.
+fn sum(alloc: Global, doublings: u32) -> Result<Term, NoMemory> {
+    let mut t = Term::Int(1);
+    for _ in 0..doublings {
+        let copied = sorted_terms::copy(alloc, &t)?;
+        t = Term::Add(Box::new(alloc, t)?, Box::new(alloc, copied)?);
+    }
+    Ok(t)
 }
 
 #[test]
@@ -66,11 +101,102 @@ fn fits_up_to_256_levels(rt: HostRuntime) -> Result<(), Fail> {
 }
 
 #[test]
-#[tactic(auto, unfolding(crate::specs::Sorts::fits))]
-fn goes_deep(rt: HostRuntime) -> Result<(), Fail> {
-    let a = levels(rt.alloc(), 1_024)?;
+fn fits_up_to_16384_nodes(rt: HostRuntime) -> Result<(), Fail> {
+    let alloc = rt.alloc();
+    // Over 8,192 leaves there are 16,383 nodes.
+    let a = Formula::All(Sort::Int, Box::new(alloc, doubled(alloc, 13)?)?);
+    assert!(rt; fits(&a));
+    let a = Formula::All(Sort::Int, Box::new(alloc, a)?);
     assert!(rt; !fits(&a));
-    let copied = copy(rt.alloc(), &a)?;
-    assert!(rt; same(&a, &copied));
+    Ok(())
+}
+
+#[test]
+fn fits_after_substitution(rt: HostRuntime) -> Result<(), Fail> {
+    let alloc = rt.alloc();
+    // Twice 8,191 nodes and two of the formula's own.
+    let a = equation(alloc, Term::Bound(0), Term::Bound(0))?;
+    let x = equation(alloc, Term::Var(7), Term::Var(7))?;
+    let t = sum(alloc, 12)?;
+    assert!(rt; fits_instance(&a, &t));
+    assert!(rt; fits_replace(&x, 7, &t));
+    let t = Term::Neg(Box::new(alloc, t)?);
+    assert!(rt; !fits_instance(&a, &t));
+    assert!(rt; !fits_replace(&x, 7, &t));
+
+    // The term is too large by itself, and does not come in.
+    let t = sum(alloc, 14)?;
+    assert!(rt; fits_instance(&x, &t));
+    assert!(rt; fits_replace(&x, 8, &t));
+    Ok(())
+}
+
+#[test]
+fn substitutes_under_quantifiers(rt: HostRuntime) -> Result<(), Fail> {
+    let alloc = rt.alloc();
+    // Under two quantifiers index 2 is the one that stands for the outermost variable of the body.
+    let a = less(alloc, Term::Bound(2), Term::Bound(0))?;
+    let a = Formula::Ex(Sort::Int, Box::new(alloc, a)?);
+    let a = Formula::Ex(Sort::Int, Box::new(alloc, a)?);
+    let instance = instantiate(alloc, &a, &Term::Bound(0), 0)?;
+    assert!(rt; same(&instance, &a));
+
+    let shifted = shift(alloc, &a, 1, 0)?;
+    let wanted = less(alloc, Term::Bound(3), Term::Bound(0))?;
+    let wanted = Formula::Ex(Sort::Int, Box::new(alloc, wanted)?);
+    let wanted = Formula::Ex(Sort::Int, Box::new(alloc, wanted)?);
+    assert!(rt; same(&shifted, &wanted));
+    let Some(back) = unshift(alloc, &shifted)? else {
+        panic!();
+    };
+    assert!(rt; same(&back, &a));
+    assert!(rt; unshift(alloc, &a)?.is_none());
+    Ok(())
+}
+
+#[test]
+fn replaces_under_quantifiers(rt: HostRuntime) -> Result<(), Fail> {
+    let alloc = rt.alloc();
+    let a = less(alloc, Term::Var(0), Term::Bound(0))?;
+    let a = Formula::All(Sort::Int, Box::new(alloc, a)?);
+    let replaced = replace_var(alloc, &a, 0, &Term::Bound(0), 0)?;
+    let wanted = less(alloc, Term::Bound(1), Term::Bound(0))?;
+    let wanted = Formula::All(Sort::Int, Box::new(alloc, wanted)?);
+    assert!(rt; same(&replaced, &wanted));
+    Ok(())
+}
+
+#[test]
+fn extends_contexts(rt: HostRuntime) -> Result<(), Fail> {
+    let alloc = rt.alloc();
+    let empty = Context {
+        sorts: List::new(alloc),
+        hyps: List::new(alloc),
+    };
+    let context = empty.with_hyp(alloc, &never_three(alloc)?)?;
+    let context = context.copy(alloc)?;
+    assert_eq!(rt; context.sorts.len(), 0);
+    assert_eq!(rt; context.hyps.len(), 1);
+    let context = empty.with_sort(alloc, Sort::Bool)?;
+    assert_eq!(rt; context.sorts.get(0), Some(&Sort::Bool));
+    assert_eq!(rt; context.hyps.len(), 0);
+    Ok(())
+}
+
+#[test]
+#[tactic(auto, unfolding(crate::specs::Sorts::fits), using(crate::proofs::Places::closed_shift, crate::proofs::Places::closed_instance, crate::proofs::Places::closed_replacement))]
+fn goes_deep(rt: HostRuntime) -> Result<(), Fail> {
+    let alloc = rt.alloc();
+    let a = levels(alloc, 1_024)?;
+    let one = Term::Int(1);
+    assert!(rt; !fits(&a));
+    assert!(rt; !fits_instance(&a, &one));
+    assert!(rt; !fits_replace(&a, 0, &one));
+    assert!(rt; well_sorted(&Decls::new(alloc), &List::new(alloc), &a)?);
+    assert!(rt; same(&a, &copy(alloc, &a)?));
+    assert!(rt; same(&a, &shift(alloc, &a, 1, 0)?));
+    assert!(rt; same(&a, &instantiate(alloc, &a, &one, 0)?));
+    assert!(rt; same(&a, &replace_var(alloc, &a, 0, &one, 0)?));
+    assert!(rt; unshift(alloc, &a)?.is_some());
     Ok(())
 }

@@ -1,15 +1,6 @@
 -- Substitution on terms, with de Bruijn indices.
-use Rattle.std.specs.Prelude.{ℕ, ◌+◌, ◌-◌, ◌<◌, nat_lt, Bool, false, ◌||◌, ◌==◌, if◌then◌else◌}
+use Rattle.std.specs.Prelude.{ℕ, ◌+◌, ◌-◌, ◌<◌, nat_lt, ◌==◌, Bool, false, ◌||◌, if◌then◌else◌}
 use Rattle.sorted_terms.specs.Tree.{TermTree, name, index, integer, boolean, unary, binary}
-
--- the index stands in the term
-abbrev pub occurs_term : ℕ → TermTree → Bool
-occurs_term k (name x) = false
-occurs_term k (index j) = j == k
-occurs_term k (integer n) = false
-occurs_term k (boolean b) = false
-occurs_term k (unary sign t) = occurs_term k t
-occurs_term k (binary sign s t) = occurs_term k s || occurs_term k t
 
 -- every index of the term is below `bound`
 abbrev pub HasTermIndicesBelow : ℕ → TermTree → Type 0
@@ -51,3 +42,12 @@ replace_term (integer n) x inserted under = integer n
 replace_term (boolean b) x inserted under = boolean b
 replace_term (unary sign t) x inserted under = unary sign (replace_term t x inserted under)
 replace_term (binary sign s t) x inserted under = binary sign (replace_term s x inserted under) (replace_term t x inserted under)
+
+-- the index occurs in the term
+abbrev pub occurs_term : ℕ → TermTree → Bool
+occurs_term place (name x) = false
+occurs_term place (index k) = k == place
+occurs_term place (integer n) = false
+occurs_term place (boolean b) = false
+occurs_term place (unary sign t) = occurs_term place t
+occurs_term place (binary sign s t) = occurs_term place s || occurs_term place t

@@ -1,9 +1,17 @@
--- Two bounds on a term as a polynomial, told without any arithmetic on its values.
-use Rattle.std.specs.Prelude.{ℕ, ◌+◌, ◌*◌, max, unsigned_abs}
+-- Two bounds on a term as a polynomial, told without its values.
+use Rattle.std.specs.Prelude.{ℕ, ◌+◌, ◌*◌, max, unsigned_abs, Bool, true, false, ◌&&◌}
 use Rattle.sorted_terms.specs.Tree.{UnarySign, minus, denial, BinarySign, plus, difference, times, TermTree, name, index, integer, boolean, unary, binary}
 
--- The weight: no value of a term without names and indices, and no sum of the absolute coefficients of
--- a term's expansion, is above it.
+-- neither a name nor an index stands in the term
+abbrev pub is_closed : TermTree → Bool
+is_closed (name x) = false
+is_closed (index k) = false
+is_closed (integer n) = true
+is_closed (boolean b) = true
+is_closed (unary sign t) = is_closed t
+is_closed (binary sign s t) = is_closed s && is_closed t
+
+-- the weight, which no value of a closed term is above
 abbrev pub term_weight : TermTree → ℕ
 term_weight (name x) = 1
 term_weight (index k) = 1

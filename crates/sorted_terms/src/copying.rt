@@ -1,76 +1,41 @@
 //! Copies of terms, and whether two terms are the same.
 
-ghost use Rattle.std.specs.Prelude.{◌≡◌, ◌↔◌, IsTrue, IfOk};
+ghost use Rattle.std.specs.Prelude.{◌≡◌, ◌↔◌, ◌^◌, IsTrue, IfOk, OnOk};
 ghost use Rattle.sorted_terms.specs.Tree.{term_tree};
+ghost use Rattle.sorted_terms.specs.Substitution.{HasTermIndicesBelow};
 
+use crate::signs::{with_part, with_parts};
 use crate::term::Term;
 use ck_base::NoMemory;
 use std::alloc::Global;
 
-/// A copy of the term; `NoMemory` where memory for a node was refused.
+/// A copy of the term, whose indices are words of 32 bits; `NoMemory` where memory for a node was refused.
 pub fn copy(alloc: Global, t: &Term) -> Result<Term, NoMemory>
-    ensures { IfOk result (λ r. term_tree r ≡ term_tree t.now) }
+    ensures copy { IfOk result (λ r. term_tree r ≡ term_tree t.now) }
+    ensures words { OnOk result (HasTermIndicesBelow (2 ^ 32) (term_tree t.now)) }
 {
     match t {
         Term::Var(x) => Ok(Term::Var(*x)),
         Term::Bound(k) => Ok(Term::Bound(*k)),
         Term::Int(n) => Ok(Term::Int(*n)),
-        Term::Add(s, t) => {
-            let s = boxed(alloc, copy(alloc, s)?)?;
-            let t = boxed(alloc, copy(alloc, t)?)?;
-            Ok(Term::Add(s, t))
-        }
-        Term::Sub(s, t) => {
-            let s = boxed(alloc, copy(alloc, s)?)?;
-            let t = boxed(alloc, copy(alloc, t)?)?;
-            Ok(Term::Sub(s, t))
-        }
-        Term::Mul(s, t) => {
-            let s = boxed(alloc, copy(alloc, s)?)?;
-            let t = boxed(alloc, copy(alloc, t)?)?;
-            Ok(Term::Mul(s, t))
-        }
-        Term::Neg(t) => {
-            let t = boxed(alloc, copy(alloc, t)?)?;
-            Ok(Term::Neg(t))
-        }
         Term::Truth(b) => Ok(Term::Truth(*b)),
-        Term::Eq(s, t) => {
-            let s = boxed(alloc, copy(alloc, s)?)?;
-            let t = boxed(alloc, copy(alloc, t)?)?;
-            Ok(Term::Eq(s, t))
+        Term::Neg(part) | Term::Not(part) => {
+            let part = copy(alloc, part)?;
+            with_part(alloc, t, part)
         }
-        Term::Less(s, t) => {
-            let s = boxed(alloc, copy(alloc, s)?)?;
-            let t = boxed(alloc, copy(alloc, t)?)?;
-            Ok(Term::Less(s, t))
-        }
-        Term::AtMost(s, t) => {
-            let s = boxed(alloc, copy(alloc, s)?)?;
-            let t = boxed(alloc, copy(alloc, t)?)?;
-            Ok(Term::AtMost(s, t))
-        }
-        Term::Not(t) => {
-            let t = boxed(alloc, copy(alloc, t)?)?;
-            Ok(Term::Not(t))
-        }
-        Term::Both(s, t) => {
-            let s = boxed(alloc, copy(alloc, s)?)?;
-            let t = boxed(alloc, copy(alloc, t)?)?;
-            Ok(Term::Both(s, t))
-        }
-        Term::Either(s, t) => {
-            let s = boxed(alloc, copy(alloc, s)?)?;
-            let t = boxed(alloc, copy(alloc, t)?)?;
-            Ok(Term::Either(s, t))
+        Term::Add(left, right)
+        | Term::Sub(left, right)
+        | Term::Mul(left, right)
+        | Term::Eq(left, right)
+        | Term::Less(left, right)
+        | Term::AtMost(left, right)
+        | Term::Both(left, right)
+        | Term::Either(left, right) => {
+            let left = copy(alloc, left)?;
+            let right = copy(alloc, right)?;
+            with_parts(alloc, t, left, right)
         }
     }
-}
-
-fn boxed(alloc: Global, t: Term) -> Result<Box<Term>, NoMemory>
-    ensures { IfOk result (λ b. b.value ≡ t) }
-{
-    Ok(Box::new(alloc, t)?)
 }
 
 /// Whether two terms are the same. It takes no memory.

@@ -1,10 +1,10 @@
 //! How large a term would be after a substitution, told by counts before it is built.
 
-ghost use Rattle.std.specs.Prelude.{◌≡◌, ◌+◌, ◌<◌, ◌≤◌, ◌⊎◌, IfSome, IfNone};
+ghost use Rattle.std.specs.Prelude.{◌≡◌, ◌+◌, ◌<◌, ◌≤◌, ◌⊎◌, IfSome, IfNone, IsSome};
 ghost use Rattle.sorted_terms.specs.Tree.{term_tree};
 ghost use Rattle.sorted_terms.specs.Sorts.{term_size, term_depth};
 ghost use Rattle.sorted_terms.specs.Substitution.{instance_term, replace_term};
-ghost use Rattle.sorted_terms.specs.Extents.{IsExtent, Leaves};
+ghost use Rattle.sorted_terms.specs.Extents.{IsExtent};
 
 use crate::measures::{depth, size, spend};
 use crate::term::Term;
@@ -18,7 +18,7 @@ pub struct Extent {
 }
 
 /// How large the term is; `None` where it has more than 16,384 nodes or 256 levels. It takes no memory.
-pub fn extent(t: &Term) -> Option<Extent>
+pub fn extent_of(t: &Term) -> Option<Extent>
     ensures { IsExtent result (term_tree t.now) }
 {
     spend(t, FORMULA_NODES, FORMULA_DEPTH)?;
@@ -40,10 +40,11 @@ pub fn spend_instance(
     nodes: u32,
     levels: u32,
 ) -> Option<u32>
-    requires { IsExtent extent (term_tree with.now) }
-    requires { nodes ≤ 16384 }
-    requires { levels ≤ 256 }
-    ensures { Leaves result nodes levels (instance_term (term_tree t.now) (term_tree with.now) at) }
+    requires extent { IsExtent extent (term_tree with.now) }
+    requires nodes { nodes ≤ 16384 }
+    requires levels { levels ≤ 256 }
+    ensures within { IfSome result (λ left. (term_size (instance_term (term_tree t.now) (term_tree with.now) at) + left ≡ nodes) × (term_depth (instance_term (term_tree t.now) (term_tree with.now) at) ≤ levels)) }
+    ensures beyond { IfNone result ((nodes < term_size (instance_term (term_tree t.now) (term_tree with.now) at)) ⊎ (levels < term_depth (instance_term (term_tree t.now) (term_tree with.now) at))) }
 {
     match t {
         Term::Bound(k) if *k == at => spend_extent(extent, nodes, levels),
@@ -80,10 +81,11 @@ pub fn spend_replaced(
     nodes: u32,
     levels: u32,
 ) -> Option<u32>
-    requires { IsExtent extent (term_tree with.now) }
-    requires { nodes ≤ 16384 }
-    requires { levels ≤ 256 }
-    ensures { Leaves result nodes levels (replace_term (term_tree t.now) name (term_tree with.now) under) }
+    requires extent { IsExtent extent (term_tree with.now) }
+    requires nodes { nodes ≤ 16384 }
+    requires levels { levels ≤ 256 }
+    ensures within { IfSome result (λ left. (term_size (replace_term (term_tree t.now) name (term_tree with.now) under) + left ≡ nodes) × (term_depth (replace_term (term_tree t.now) name (term_tree with.now) under) ≤ levels)) }
+    ensures beyond { IfNone result ((nodes < term_size (replace_term (term_tree t.now) name (term_tree with.now) under)) ⊎ (levels < term_depth (replace_term (term_tree t.now) name (term_tree with.now) under))) }
 {
     match t {
         Term::Var(x) if *x == name => spend_extent(extent, nodes, levels),
@@ -107,4 +109,25 @@ pub fn spend_replaced(
             spend_replaced(t, name, with, extent, under, nodes, levels)
         }
     }
+}
+
+/// What is left of `nodes` after one node; `None` where there is none, or no level for it.
+fn spend_leaf(nodes: u32, levels: u32) -> Option<u32>
+    ensures within { IfSome result (λ left. (1 + left ≡ nodes) × (1 ≤ levels)) }
+    ensures beyond { IfNone result ((nodes < 1) ⊎ (levels < 1)) }
+{
+    levels.checked_sub(1)?;
+    nodes.checked_sub(1)
+}
+
+/// What is left of `nodes` after those of the extent; `None` where it has more, or more levels, or is of a
+/// term that does not fit.
+fn spend_extent(extent: Option<Extent>, nodes: u32, levels: u32) -> Option<u32>
+    ensures within { IfSome result (λ left. IfSome extent (λ e. (e.nodes + left ≡ nodes) × (e.levels ≤ levels))) }
+    ensures some { IfSome result (λ _. IsSome extent) }
+    ensures beyond { IfNone result (IfSome extent (λ e. (nodes < e.nodes) ⊎ (levels < e.levels))) }
+{
+    let extent = extent?;
+    levels.checked_sub(extent.levels)?;
+    nodes.checked_sub(extent.nodes)
 }

@@ -1,6 +1,6 @@
 //! Size and depth of terms.
 
-ghost use Rattle.std.specs.Prelude.{◌≡◌, ◌+◌, ◌^◌, ◌<◌, ◌≤◌, ◌⊎◌, ◌×◌, IfSome, IfNone};
+ghost use Rattle.std.specs.Prelude.{◌≡◌, ◌+◌, ◌^◌, ◌<◌, ◌≤◌, ◌⊎◌, IfSome, IfNone};
 ghost use Rattle.sorted_terms.specs.Tree.{term_tree};
 ghost use Rattle.sorted_terms.specs.Sorts.{term_size, term_depth};
 
