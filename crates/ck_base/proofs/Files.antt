@@ -10,13 +10,13 @@ use Rattle.ck_base.specs.declared.outside.NamedBytes.{NamedBytes}
 use Rattle.ck_base.specs.Outside.{content}
 use Rattle.ck_base.specs.Memory.{bytes_of}
 
-same_test : (a b : ℕ) → nat_lt (suc a) (suc b) ≡ nat_lt a b
+pub same_test : (a b : ℕ) → nat_lt (suc a) (suc b) ≡ nat_lt a b
 same_test a b = grind (arith, nat_tests)
 
-starts : (n : ℕ) → nat_lt 0 (suc n) ≡ true
+pub starts : (n : ℕ) → nat_lt 0 (suc n) ≡ true
 starts n = grind (arith, nat_tests)
 
-one_more : (n : ℕ) → 1 + n ≡ suc n
+pub one_more : (n : ℕ) → 1 + n ≡ suc n
 one_more n = omega arith
 
 -- a name's bytes are those of the file at its first position

@@ -1,6 +1,9 @@
 -- The rule for declared names.
-use Rattle.std.specs.Prelude.{◌≡◌, ℕ, Bool, true, false, not, ◌&&◌, ◌||◌, ◌==◌, nat_le, List, [], ◌∷◌, length, codes}
+use Rattle.std.specs.Prelude.{◌≡◌, ℕ, Bool, true, false, not, ◌&&◌, ◌||◌, ◌==◌, nat_le, List, [], ◌∷◌, length, codes, String, Some, None, suc, if◌then◌else◌}
 use Rattle.std.specs.List.{list_all, list_any}
+use Rattle.std.specs.Option.{option_map}
+use Rattle.std.specs.String.{string_bytes}
+use Rattle.std.specs.declared.option.Option.{Option}
 use Rattle.std.specs.Str.{bytes_eq}
 use Rattle.ck_base.specs.declared.decl.Decl.{Decl}
 
@@ -34,3 +37,13 @@ is_new name (d ∷ declarations) = not (bytes_eq name d.name) && is_new name dec
 abbrev pub AreNames : List Decl → Type 0
 AreNames [] = Unit {0}
 AreNames (d ∷ declarations) = (is_name d.name ≡ true) × (is_new d.name declarations ≡ true) × AreNames declarations
+
+-- the number of the declaration of that name, from 0
+abbrev pub number_of : List ℕ → List Decl → Option ℕ
+number_of name [] = None
+number_of name (d ∷ declarations) = if bytes_eq name d.name then Some 0 else option_map suc (number_of name declarations)
+
+-- each key is the name of its declaration
+abbrev pub AreKeyed : {A : Type 0} → List (String A × Decl) → Type 0
+AreKeyed [] = Unit {0}
+AreKeyed (e ∷ entries) = (string_bytes e.0 ≡ e.1.name) × AreKeyed entries

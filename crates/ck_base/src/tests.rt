@@ -85,9 +85,106 @@ fn a_text_grows_and_is_cut(rt: HostRuntime) -> Result<(), Fail> {
     Ok(())
 }
 
+/// Declares a variable of integers, and answers its number.
+fn declare(decls: &mut Decls, name: &str) -> Result<u32, DeclFault> {
+    decls.add(name, Kind::Variable, Sort::Int)
+}
+
+fn is_bad(decls: &mut Decls, name: &str) -> bool {
+    matches!(declare(decls, name), Err(DeclFault::BadName))
+}
+
+fn is_duplicate(decls: &mut Decls, name: &str, number: u32) -> bool {
+    matches!(declare(decls, name), Err(DeclFault::Duplicate(n)) if n == number)
+}
+
+fn is_too_many(decls: &mut Decls, name: &str) -> bool {
+    matches!(declare(decls, name), Err(DeclFault::TooMany))
+}
+
+/// Declares 64 names: the letters, pairs of neighbours among them, and triples up to `mno`.
+fn full(alloc: Global) -> Result<Decls, DeclFault> {
+    let letters = "abcdefghijklmnopqrstuvwxyz";
+    let mut decls = Decls::new(alloc);
+    for len in 1..4 {
+        for start in 0..26 {
+            if let Some(name) = letters.get(start..start + len)
+                && decls.len() < 64
+            {
+                declare(&mut decls, name)?;
+            }
+        }
+    }
+    Ok(decls)
+}
+
 #[test]
-fn a_table_of_declarations_is_made(rt: HostRuntime) {
-    drop(Decls::new(rt.alloc()));
+fn a_table_numbers_its_names(rt: HostRuntime) -> Result<(), Fail> {
+    let mut decls = Decls::new(rt.alloc());
+    assert_eq!(rt; declare(&mut decls, "n")?, 0);
+    assert_eq!(rt; decls.add("max_3", Kind::Constant, Sort::Bool)?, 1);
+    assert!(rt; is_duplicate(&mut decls, "max_3", 1));
+    assert_eq!(rt; decls.number("max_3"), Some(1));
+    assert_eq!(rt; decls.number("max"), None);
+    assert_eq!(rt; decls.len(), 2);
+    Ok(())
+}
+
+#[test]
+fn a_copy_has_the_same_declarations(rt: HostRuntime) -> Result<(), Fail> {
+    let mut decls = Decls::new(rt.alloc());
+    decls.add("big", Kind::Constant, Sort::Bool)?;
+    let copy = decls.copy(rt.alloc())?;
+    assert_eq!(rt; copy.len(), 1);
+    assert!(rt; copy.at(1).is_none());
+    let Some(decl) = copy.at(0) else {
+        panic!(rt; "a copy lacks a declaration")
+    };
+    assert_eq!(rt; decl.name.as_bytes(), b"big".as_slice());
+    assert_eq!(rt; decl.kind, Kind::Constant);
+    assert_eq!(rt; decl.sort, Sort::Bool);
+    Ok(())
+}
+
+#[test]
+fn a_name_has_at_most_32_bytes(rt: HostRuntime) -> Result<(), Fail> {
+    let mut decls = Decls::new(rt.alloc());
+    assert_eq!(rt; declare(&mut decls, "abcdefghijklmnopqrstuvwxyz_01234")?, 0);
+    assert!(rt; is_bad(&mut decls, "abcdefghijklmnopqrstuvwxyz_012345"));
+    Ok(())
+}
+
+#[test]
+fn what_is_no_name_is_not_declared(rt: HostRuntime) {
+    let mut decls = Decls::new(rt.alloc());
+    for text in ["", "_a", "1a", "aB", "a-b"] {
+        assert!(rt; is_bad(&mut decls, text), "{text}");
+    }
+    for word in [
+        "true", "false", "bottom", "not", "and", "or", "all", "ex", "int", "bool", "div", "mod",
+    ] {
+        assert!(rt; is_bad(&mut decls, word), "{word}");
+    }
+}
+
+#[test]
+fn a_table_holds_64_names(rt: HostRuntime) -> Result<(), Fail> {
+    let mut decls = full(rt.alloc())?;
+    assert_eq!(rt; decls.number("mno"), Some(63));
+    assert!(rt; is_too_many(&mut decls, "nop"));
+    assert!(rt; is_duplicate(&mut decls, "a", 0));
+    assert!(rt; is_bad(&mut decls, "a b"));
+    assert_eq!(rt; decls.len(), 64);
+    Ok(())
+}
+
+#[test]
+fn a_scope_belongs_to_a_hole(rt: HostRuntime) -> Result<(), Fail> {
+    let mut scopes = Scopes::new(rt.alloc());
+    let scope = Scope { sorts: 2, hyps: 1 };
+    scopes.push(HoleScope { hole: 3, scope })?;
+    assert_eq!(rt; scopes.get(0), Some(&HoleScope { hole: 3, scope }));
+    Ok(())
 }
 
 #[test]
