@@ -1,5 +1,5 @@
 -- Substitution at a place that is above every index.
-use Rattle.std.proofs.Common.{◌≡◌, ℕ, suc, ◌≤◌, ◌^◌, Bool, false, ◌||◌, arith, ap, ap₂, refl}
+use Rattle.std.proofs.Common.{◌≡◌, ℕ, suc, ◌≤◌, ◌^◌, Bool, false, ◌||◌, arith, ap, ap₂, sym, subst, refl}
 use Rattle.sorted_terms.specs.Tree.{TermTree}
 use Rattle.sorted_terms.specs.Substitution.{HasTermIndicesBelow}
 use Rattle.sorted_terms.proofs.Past as Past
@@ -45,22 +45,25 @@ absent_past a at h i = absent_above (2 ^ 32) a (suc at) h i
 pub replaced_past : (a : FormulaTree) (x : ℕ) (inserted : TermTree) (under : ℕ) → 2 ^ 32 ≤ suc under → HasIndicesBelow (2 ^ 32) (replaced a x inserted (suc under)) → replaced a x inserted under ≡ replaced a x inserted (suc under)
 replaced_past a x inserted under h i = replaced_above (2 ^ 32) a x inserted (suc under) under h i
 
+pub replaced_room : (a : FormulaTree) (x : ℕ) (inserted : TermTree) (under : ℕ) → 2 ^ 32 ≤ suc under → HasIndicesBelow (2 ^ 32) (replaced a x inserted (suc under)) → HasIndicesBelow (2 ^ 32) (replaced a x inserted under)
+replaced_room a x inserted under h i = subst (HasIndicesBelow (2 ^ 32)) (sym (replaced_past a x inserted under h i)) i
+
 -- A formula without an index is as it was after a shift and after an instance, and has none after a
 -- replacement by a term without one.
 pub closed_shift : (a : FormulaTree) (by above bound : ℕ) → HasIndicesBelow 0 a → HasIndicesBelow bound (shift a by above)
-closed_shift bottom by above bound i = ()
+closed_shift bottom by above bound i = tt
 closed_shift (holds t) by above bound i = Past.closed_shift t by above bound i
 closed_shift (joined c a b) by above bound i = (closed_shift a by above bound i.0, closed_shift b by above bound i.1)
 closed_shift (quantified q s a) by above bound i = closed_shift a by (suc above) bound i
 
 pub closed_instance : (a : FormulaTree) (inserted : TermTree) (place bound : ℕ) → HasIndicesBelow 0 a → HasIndicesBelow bound (instance a inserted place)
-closed_instance bottom inserted place bound i = ()
+closed_instance bottom inserted place bound i = tt
 closed_instance (holds t) inserted place bound i = Past.closed_instance t inserted place bound i
 closed_instance (joined c a b) inserted place bound i = (closed_instance a inserted place bound i.0, closed_instance b inserted place bound i.1)
 closed_instance (quantified q s a) inserted place bound i = closed_instance a inserted (suc place) bound i
 
 pub closed_replacement : (a : FormulaTree) (x : ℕ) (inserted : TermTree) (under bound : ℕ) → HasIndicesBelow 0 a → HasTermIndicesBelow 0 inserted → HasIndicesBelow bound (replaced a x inserted under)
-closed_replacement bottom x inserted under bound i j = ()
+closed_replacement bottom x inserted under bound i j = tt
 closed_replacement (holds t) x inserted under bound i j = Past.closed_replacement t x inserted under bound i j
 closed_replacement (joined c a b) x inserted under bound i j = (closed_replacement a x inserted under bound i.0 j, closed_replacement b x inserted under bound i.1 j)
 closed_replacement (quantified q s a) x inserted under bound i j = closed_replacement a x inserted (suc under) bound i j

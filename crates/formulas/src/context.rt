@@ -45,7 +45,7 @@ impl Context {
     /// The context with one more bound variable, the innermost: every hypothesis is shifted by one, and no
     /// index of it may pass 2^32 - 1. `NoMemory` where memory was refused.
     pub fn with_sort(&self, alloc: Global, s: Sort) -> Result<Context, NoMemory>
-        requires { AllIndicesBelow (2 ^ 32) (raised (hypotheses_of self.now)) }
+        requires { AllIndicesBelow (2 ^ 32) (raised (map formula_tree self.now.hyps)) }
         ensures variables { IfOk result (λ c. variables_of c ≡ s ∷ variables_of self.now) }
         ensures hypotheses { IfOk result (λ c. hypotheses_of c ≡ raised (hypotheses_of self.now)) }
     {

@@ -86,7 +86,9 @@ fn spend_replaced(
     let levels = levels.checked_sub(1)?;
     match a {
         Formula::Bottom => Some(nodes),
-        Formula::Holds(t) => sorted_terms::spend_replaced(t, name, with, extent, under, nodes, levels),
+        Formula::Holds(t) => sorted_terms::spend_replaced(
+            t, name, with, extent, under, nodes, levels,
+        ),
         Formula::Imp(a, b) | Formula::Conj(a, b) | Formula::Disj(a, b) => {
             let nodes = spend_replaced(a, name, with, extent, under, nodes, levels)?;
             spend_replaced(b, name, with, extent, under, nodes, levels)

@@ -9,7 +9,12 @@ use std::alloc::Global;
 
 /// The connective of `a` between two other parts.
 #[inline(never)]
-pub fn with_parts(alloc: Global, a: &Formula, left: Formula, right: Formula) -> Result<Formula, NoMemory>
+pub fn with_parts(
+    alloc: Global,
+    a: &Formula,
+    left: Formula,
+    right: Formula,
+) -> Result<Formula, NoMemory>
     requires { IsJoined (formula_tree a.now) }
     ensures { IfOk result (λ r. formula_tree r ≡ over_parts (formula_tree a.now) (formula_tree left) (formula_tree right)) }
 {

@@ -67,7 +67,7 @@ pub fn instantiate(alloc: Global, a: &Formula, with: &Term, at: u32) -> Result<F
 
 /// The formula with `with`, shifted by `under`, in place of the declared name. No index of it may pass
 /// 2^32 - 1. `NoMemory` where memory for a node was refused.
-#[tactic(auto, using(crate::proofs::Places::replaced_past))]
+#[tactic(auto, using(crate::proofs::Places::replaced_past, crate::proofs::Places::replaced_room))]
 pub fn replace_var(
     alloc: Global,
     a: &Formula,

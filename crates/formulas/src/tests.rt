@@ -147,7 +147,7 @@ fn substitutes_under_quantifiers(rt: HostRuntime) -> Result<(), Fail> {
     let wanted = Formula::Ex(Sort::Int, Box::new(alloc, wanted)?);
     assert!(rt; same(&shifted, &wanted));
     let Some(back) = unshift(alloc, &shifted)? else {
-        panic!();
+        panic!(rt; "nothing");
     };
     assert!(rt; same(&back, &a));
     assert!(rt; unshift(alloc, &a)?.is_none());

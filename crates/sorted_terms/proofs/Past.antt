@@ -1,6 +1,6 @@
 -- Substitution at a place that is above every index.
-use Rattle.std.proofs.Common.{◌≡◌, ℕ, suc, ◌+◌, ◌-◌, ◌≤◌, ◌<◌, ◌^◌, nat_lt, ◌==◌, Bool, true, false, ◌||◌, if◌then◌else◌, ⊎_elim, arith, ap, ap₂, sym, ◌∙◌, refl, subst}
-use Rattle.std.proofs.lemmas.Bool.{lt-ltb}
+use Rattle.std.proofs.Common.{◌≡◌, ℕ, suc, ◌+◌, ◌-◌, ◌≤◌, ◌<◌, ◌^◌, nat_lt, ◌==◌, Bool, true, false, ◌||◌, if◌then◌else◌, ⊎_elim, arith, ap, ap₂, sym, ◌∙◌, refl, subst, ◌≢◌}
+use Rattle.std.proofs.lemmas.Bool.{lt-ltb, le-ltb}
 use Rattle.std.proofs.lemmas.Bool.Decides.{eqb_tells}
 use Rattle.sorted_terms.specs.Tree.{TermTree, name, index, integer, boolean, unary, binary}
 use Rattle.sorted_terms.specs.Substitution.{shift_term, instance_term, replace_term, occurs_term, HasTermIndicesBelow}
@@ -36,7 +36,9 @@ module _ (bound : ℕ) where
   -- where a shift from 0 on keeps the indices below what it adds, there are none
   same_shift : (t : TermTree) (by other : ℕ) → bound ≤ by → HasTermIndicesBelow bound (shift_term t by 0) → shift_term t other 0 ≡ shift_term t by 0
   same_shift (name x) by other h i = refl
-  same_shift (index k) by other h i = absurd (omega (arith, h, i))
+  same_shift (index k) by other h i =
+      let j : k + by < bound = subst (λ b. (if b then k else k + by) < bound) (le-ltb k 0 (omega arith)) i in
+      absurd (omega (arith, h, j))
   same_shift (integer n) by other h i = refl
   same_shift (boolean b) by other h i = refl
   same_shift (unary sign t) by other h i = ap (unary sign) (same_shift t by other h i)
@@ -56,10 +58,10 @@ module _ (bound : ℕ) where
 -- A term without an index is as it was after a shift and after an instance, and has none after a
 -- replacement by another such term.
 raised : (t : TermTree) (bound : ℕ) → HasTermIndicesBelow 0 t → HasTermIndicesBelow bound t
-raised (name x) bound i = ()
+raised (name x) bound i = tt
 raised (index k) bound i = absurd (omega (arith, i))
-raised (integer n) bound i = ()
-raised (boolean b) bound i = ()
+raised (integer n) bound i = tt
+raised (boolean b) bound i = tt
 raised (unary sign t) bound i = raised t bound i
 raised (binary sign s t) bound i = (raised s bound i.0, raised t bound i.1)
 
@@ -73,9 +75,9 @@ pub closed_replacement : (t : TermTree) (x : ℕ) (inserted : TermTree) (under b
 closed_replacement (name y) x inserted under bound i j = by (y == x) where
   by : (b : Bool) → HasTermIndicesBelow bound (if b then shift_term inserted under 0 else name y)
   by true = closed_shift inserted under 0 bound j
-  by false = ()
+  by false = tt
 closed_replacement (index k) x inserted under bound i j = absurd (omega (arith, i))
-closed_replacement (integer n) x inserted under bound i j = ()
-closed_replacement (boolean b) x inserted under bound i j = ()
+closed_replacement (integer n) x inserted under bound i j = tt
+closed_replacement (boolean b) x inserted under bound i j = tt
 closed_replacement (unary sign t) x inserted under bound i j = closed_replacement t x inserted under bound i j
 closed_replacement (binary sign s t) x inserted under bound i j = (closed_replacement s x inserted under bound i.0 j, closed_replacement t x inserted under bound i.1 j)

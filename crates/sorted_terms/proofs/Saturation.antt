@@ -19,15 +19,15 @@ pub saturated_product : (a b m : ℕ) → min (min a m * min b m) m ≡ min (a *
 saturated_product a b zero = min-zero (min a zero * min b zero) ∙ sym (min-zero (a * b))
 saturated_product a b (suc m) =
     ⊎_elim
-        (λ (h : a < suc m).
-            ⊎_elim
-                (λ (k : b < suc m). ap₂ (λ x y. min (x * y) (suc m)) (min-eq_left (omega (arith, h))) (min-eq_left (omega (arith, k))))
-                (λ (k : suc m ≤ b).
-                    ap₂ (λ x y. min (x * y) (suc m)) (min-eq_left (omega (arith, h))) (min-eq_right k)
-                    ∙ ap (λ n. min n (suc m)) (mul_comm a (suc m))
-                    ∙ ap (λ n. min (suc m * n) (suc m)) (sym (min-eq_left {n = a} {m = suc m} (omega (arith, h))))
-                    ∙ large b a m k
-                    ∙ ap (λ n. min n (suc m)) (mul_comm b a))
-                (cases_lt b (suc m)))
-        (λ (h : suc m ≤ a). ap (λ n. min (n * min b (suc m)) (suc m)) (min-eq_right h) ∙ large a b m h)
-        (cases_lt a (suc m))
+    (λ (h : a < suc m).
+    ⊎_elim
+    (λ (k : b < suc m). ap₂ (λ x y. min (x * y) (suc m)) (min-eq_left (omega (arith, h))) (min-eq_left (omega (arith, k))))
+    (λ (k : suc m ≤ b).
+    ap₂ (λ x y. min (x * y) (suc m)) (min-eq_left (omega (arith, h))) (min-eq_right k)
+    ∙ ap (λ n. min n (suc m)) (mul_comm a (suc m))
+    ∙ ap (λ n. min (suc m * n) (suc m)) (sym (min-eq_left {n = a} {m = suc m} (omega (arith, h))))
+    ∙ large b a m k
+    ∙ ap (λ n. min n (suc m)) (mul_comm b a))
+    (cases_lt b (suc m)))
+    (λ (h : suc m ≤ a). ap (λ n. min (n * min b (suc m)) (suc m)) (min-eq_right h) ∙ large a b m h)
+    (cases_lt a (suc m))

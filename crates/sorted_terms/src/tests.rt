@@ -3,7 +3,7 @@ ghost use Rattle.sorted_terms.specs.Tree.{term_tree};
 ghost use Rattle.sorted_terms.specs.Substitution.{HasTermIndicesBelow};
 
 use super::*;
-use ck_base::{Decls, List, NoMemory, Sort};
+use ck_base::{Decls, Kind, List, NoMemory, Sort};
 use std::alloc::Global;
 use std::test::Fail;
 
@@ -152,9 +152,18 @@ fn looks_outward(rt: HostRuntime) -> Result<(), Fail> {
     let outer = Variables::Outer(&vars);
     let inner = Variables::Under(Sort::Bool, &outer);
     assert_eq!(rt; sort_at(&inner, 2), Some(Sort::Bool));
-    let decls = Decls::new(alloc);
-    assert_eq!(rt; sort_under(&decls, &inner, &Term::Bound(1)), Some(Sort::Int));
+    let mut decls = Decls::new(alloc);
+    assert!(rt; decls.add("b", Kind::Constant, Sort::Bool).is_ok());
+    assert_eq!(rt;
+        sort_under(&decls, &inner, &Term::Bound(1)),
+        Some(Sort::Int)
+    );
     assert_eq!(rt; sort_under(&decls, &outer, &Term::Bound(2)), None);
+    assert_eq!(rt;
+        sort_under(&decls, &outer, &Term::Var(0)),
+        Some(Sort::Bool)
+    );
+    assert_eq!(rt; sort_under(&decls, &outer, &Term::Var(1)), None);
     Ok(())
 }
 
@@ -165,7 +174,7 @@ fn shifts(rt: HostRuntime) -> Result<(), Fail> {
     let shifted = shift(alloc, &t, 3, 2)?;
     assert!(rt; same(&shifted, &add(alloc, Term::Bound(1), Term::Bound(5))?));
     let Some(back) = unshift(alloc, &add(alloc, Term::Bound(0), Term::Bound(2))?, 1)? else {
-        panic!();
+        panic!(rt; "nothing");
     };
     assert!(rt; same(&back, &add(alloc, Term::Bound(0), Term::Bound(1))?));
     assert!(rt; unshift(alloc, &Term::Not(Box::new(alloc, Term::Bound(1))?), 1)?.is_none());
@@ -194,7 +203,10 @@ fn weighs(rt: HostRuntime) -> Result<(), Fail> {
     let most = i128::MAX;
     assert_eq!(rt; weight(&Term::Int(0)), 1);
     assert_eq!(rt; weight(&Term::Int(most)), (1 << 127) - 1);
-    assert_eq!(rt; weight(&add(alloc, Term::Int(most), Term::Var(0))?), 1 << 127);
+    assert_eq!(rt;
+        weight(&add(alloc, Term::Int(most), Term::Var(0))?),
+        1 << 127
+    );
     let product = Term::Mul(
         Box::new(alloc, Term::Int(-(1 << 70)))?,
         Box::new(alloc, Term::Int(1 << 70))?,

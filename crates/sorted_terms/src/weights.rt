@@ -42,7 +42,9 @@ pub fn expansions(t: &Term) -> u32
     match t {
         Term::Neg(t) => expansions(t),
         Term::Add(s, t) | Term::Sub(s, t) => (expansions(s) + expansions(t)).min(MOST_EXPANSIONS),
-        Term::Mul(s, t) => expansions(s).saturating_mul(expansions(t)).min(MOST_EXPANSIONS),
+        Term::Mul(s, t) => expansions(s)
+            .saturating_mul(expansions(t))
+            .min(MOST_EXPANSIONS),
         _ => 1,
     }
 }
