@@ -159,10 +159,7 @@ fn looks_outward(rt: HostRuntime) -> Result<(), Fail> {
         Some(Sort::Int)
     );
     assert_eq!(rt; sort_under(&decls, &outer, &Term::Bound(2)), None);
-    assert_eq!(rt;
-        sort_under(&decls, &outer, &Term::Var(0)),
-        Some(Sort::Bool)
-    );
+    assert_eq!(rt; sort_under(&decls, &outer, &Term::Var(0)), Some(Sort::Bool));
     assert_eq!(rt; sort_under(&decls, &outer, &Term::Var(1)), None);
     Ok(())
 }
