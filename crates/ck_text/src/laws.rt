@@ -1,8 +1,0 @@
-//! What is proved of lines beyond single calls. The statement is in `specs/Laws.antt`.
-
-ghost use Rattle.ck_text.specs.Laws.{OneMeaning};
-
-/// A line means at most one thing.
-pub fn one_meaning()
-    ensures { OneMeaning }
-{}
