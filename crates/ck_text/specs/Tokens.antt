@@ -1,8 +1,9 @@
 -- The tokens of a text, by longest match. Spaces and tabs separate tokens and mean nothing else.
-use Rattle.std.specs.Prelude.{ℕ, zero, suc, ◌+◌, ◌-◌, ◌*◌, ◌^◌, ◌==◌, ◌||◌, ◌&&◌, Bool, true, false, List, [], ◌∷◌, length, map, take, nat_lt, Some, None, if◌then◌else◌, codes}
+use Rattle.std.specs.Prelude.{ℕ, zero, suc, ◌≡◌, ◌+◌, ◌-◌, ◌*◌, ◌^◌, ◌<◌, ◌==◌, ◌||◌, ◌&&◌, Bool, true, false, not, List, [], ◌∷◌, length, map, take, nat_lt, Some, None, if◌then◌else◌, codes}
 use Rattle.std.specs.declared.option.Option.{Option}
+use Rattle.std.specs.List.{list_all, list_any}
 use Rattle.std.specs.Str.{bytes_eq}
-use Rattle.ck_base.specs.Names.{is_letter, is_digit, is_name_byte}
+use Rattle.ck_base.specs.Names.{is_letter, is_digit, is_name_byte, reserved_words}
 use Rattle.ck_base.specs.declared.decl.Sort.{Sort}
 use Rattle.ck_base.specs.declared.decl.Sort.TheVariants as sorts
 use Rattle.ck_text.specs.declared.token.Sign.{Sign}
@@ -35,6 +36,22 @@ is_blank b = (b == 32) || (b == 9)
 
 abbrev pub begins_word : ℕ → Bool
 begins_word b = is_letter b || (b == 95)
+
+-- `[a-z_][a-z0-9_]*`, and no reserved word
+abbrev pub is_word : List ℕ → Bool
+is_word [] = false
+is_word (b ∷ bytes) = begins_word b && list_all is_name_byte bytes && not (list_any (bytes_eq (b ∷ bytes)) reserved_words)
+
+-- the token can be written
+abbrev pub IsToken : Token → Type 0
+IsToken (word bytes) = is_word bytes ≡ true
+IsToken (number n) = n < 2 ^ 127
+IsToken none = ⊥
+IsToken t = Unit {0}
+
+abbrev pub AreTokens : List Token → Type 0
+AreTokens [] = Unit {0}
+AreTokens (t ∷ tokens) = IsToken t × AreTokens tokens
 
 -- how many pass the test before the first that does not
 abbrev pub count_while : (ℕ → Bool) → List ℕ → ℕ
