@@ -1,0 +1,6 @@
+pub mod Tables
+pub mod Stacks
+pub mod Keeping
+pub mod Completing
+pub mod Rereading
+pub mod Exactness
