@@ -45,9 +45,10 @@ module _ (limit : ℕ) (asked : Bool) where
       let fourth = and_parts (nat_le (left_want o) (rank top.1) && suits (on_terms o) (is_term top.1) && suits (asks asked top.0) (on_terms o)) (nat_le (opens o + opened top.0) limit) passed.0 in
       let third = and_parts (nat_le (left_want o) (rank top.1) && suits (on_terms o) (is_term top.1)) (suits (asks asked top.0) (on_terms o)) fourth.0 in
       let second = and_parts (nat_le (left_want o) (rank top.1)) (suits (on_terms o) (is_term top.1)) third.0 in
-      subst (λ x. Keeps (having stack a) (token.joining o) x) passed.1
-      ((reduced_want (level o) stack a, leb-true (left_want o) (rank top.1) second.0, second.1, third.1, leb-true (opens o + opened top.0) limit fourth.1, stands.3, stands.0),
-      (λ rest. sym (reduced_front (suc (level o)) stack a (token.joining o ∷ rest))))
+      subst (λ x. Keeps (having stack a) (token.joining o) x) passed.1 (
+        (reduced_want (level o) stack a, leb-true (left_want o) (rank top.1) second.0, second.1, third.1, leb-true (opens o + opened top.0) limit fourth.1, stands.3, stands.0),
+        (λ rest. sym (reduced_front (suc (level o)) stack a (token.joining o ∷ rest))),
+      )
 
   closes_keeps : (stack under : List Frame) (a b : Text) (next : State) → ((rest : List Token) → front under (tokens b ++ rest) ≡ front stack (tokens a ++ rest))
       → Stands limit asked under b → closes under b ≡ Some next → Keeps (having stack a) (token.mark marks.Close) next
@@ -55,9 +56,10 @@ module _ (limit : ℕ) (asked : Bool) where
   closes_keeps stack (leading l ∷ under) a b next same h e = absurd (cc)
   closes_keeps stack (operand o c ∷ under) a b next same h e = absurd (cc)
   closes_keeps stack (parenthesis ∷ under) a b next same h e =
-      goes (having stack a) (token.mark marks.Close) (having under (closed b)) next e
-      ((h.0.1, want_most under, h.2, (h.0.0, h.3)),
-      (λ rest. sym (same (token.mark marks.Close ∷ rest)) ∙ ap (λ ts. front under (token.mark marks.Open ∷ ts)) (sym (append_assoc (tokens b) (token.mark marks.Close ∷ []) rest))))
+      goes (having stack a) (token.mark marks.Close) (having under (closed b)) next e (
+        (h.0.1, want_most under, h.2, (h.0.0, h.3)),
+        (λ rest. sym (same (token.mark marks.Close ∷ rest)) ∙ ap (λ ts. front under (token.mark marks.Open ∷ ts)) (sym (append_assoc (tokens b) (token.mark marks.Close ∷ []) rest))),
+      )
 
   pub step_keeps : (st : State) (t : Token) (next : State) → Lasts limit asked st → step limit asked st t ≡ Some next → Keeps st t next
   step_keeps (wanting stack) (token.truth b) next h e = goes (wanting stack) (token.truth b) (having stack (truth b)) next e ((h, want_most stack, term_suits (asks asked stack), tt), (λ rest. refl))

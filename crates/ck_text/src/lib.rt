@@ -5,7 +5,7 @@
 //! (`Laws.antt`). `Machine.antt` has the steps of the reader over tokens.
 #![tactic(auto)]
 
-
+pub mod laws;
 pub mod token;
 
 pub use token::{Mark, Prefix, Quantifier, Sign};
