@@ -1,10 +1,10 @@
 -- Each state that is reached goes on to a text of the asked form: a name where an operand is wanted, and a `)` for each `(`.
-use Rattle.std.proofs.Common.{◌≡◌, ℕ, zero, suc, ◌+◌, ◌≤◌, ◌<◌, Bool, true, false, List, [], ◌∷◌, ◌++◌, refl, sym, ap, ◌∙◌, append_assoc, append-nil, Option, Some, None}
+use Rattle.std.proofs.Common.{◌≡◌, ℕ, Bool, List, [], ◌∷◌, ◌++◌, refl, sym, ap, ◌∙◌, append_assoc, append-nil, Some, None}
 use Rattle.ck_base.specs.declared.decl.Sort.TheVariants as sorts
 use Rattle.ck_text.specs.declared.token.Mark.TheVariants as marks
 use Rattle.ck_text.specs.Tokens.{Token, AreTokens}
 use Rattle.ck_text.specs.Tokens as token
-use Rattle.ck_text.specs.Texts.{Lead, binder, Text, name, led, joined, closed, lead_tokens, tokens, IsText}
+use Rattle.ck_text.specs.Texts.{binder, Text, name, led, joined, closed, lead_tokens, tokens, IsText}
 use Rattle.ck_text.specs.Machine.{Frame, leading, operand, parenthesis, State, wanting, having, naming, named, sorting, sorted, asks}
 use Rattle.ck_text.proofs.Tables.{want_most, term_suits}
 use Rattle.ck_text.proofs.Stacks.{Sits, Stands, Lasts, front, before}

@@ -1,10 +1,10 @@
 -- The reader is exact: what it reads, and where it stops.
-use Rattle.std.proofs.Common.{◌≡◌, ℕ, Bool, true, false, List, [], ◌∷◌, ◌++◌, refl, sym, ap, subst, ◌∙◌, append_assoc, append-nil, Option, Some, None, Ok, Err}
+use Rattle.std.proofs.Common.{◌≡◌, ℕ, Bool, List, [], ◌∷◌, ◌++◌, refl, sym, ap, subst, ◌∙◌, append_assoc, append-nil, Option, Some, None, Ok, Err}
 use Rattle.std.specs.declared.result.Result.{Result}
-use Rattle.ck_text.specs.Tokens.{Token, AreTokens}
+use Rattle.ck_text.specs.Tokens.{Token}
 use Rattle.ck_text.specs.Texts.{Text, tokens, IsText}
 use Rattle.ck_text.specs.Machine.{State, wanting, step, finished, or_fault, after, run, read}
-use Rattle.ck_text.specs.Laws.{Begins, BeginsNone, StopsAt, ReadsExactly, OneText}
+use Rattle.ck_text.specs.Laws.{Begins, StopsAt, ReadsExactly, OneText}
 use Rattle.ck_text.proofs.Stacks.{Lasts, before}
 use Rattle.ck_text.proofs.Keeping.{step_keeps, run_is}
 use Rattle.ck_text.proofs.Completing.{completed}

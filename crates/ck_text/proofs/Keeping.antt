@@ -1,14 +1,13 @@
 -- Each step of the reader keeps what holds of its stack, and puts the token behind those that were read.
-use Rattle.std.proofs.Common.{◌≡◌, ℕ, zero, suc, ◌+◌, ◌≤◌, ◌<◌, Bool, true, false, ◌&&◌, List, [], ◌∷◌, ◌++◌, refl, sym, ap, subst, ◌∙◌, arith, append_assoc, append-nil, Option, Some, None, Ok, Err, nat_le, nat_lt}
+use Rattle.std.proofs.Common.{◌≡◌, ℕ, suc, ◌+◌, Bool, true, false, ◌&&◌, List, [], ◌∷◌, ◌++◌, refl, sym, ap, subst, ◌∙◌, append_assoc, append-nil, Option, Some, None, Ok, nat_le, nat_lt}
 use Rattle.std.proofs.lemmas.Bool.{and_parts, leb-true, ltb-true}
-use Rattle.std.specs.declared.result.Result.{Result}
 use Rattle.ck_text.specs.declared.token.Sign.{Sign}
 use Rattle.ck_text.specs.declared.token.Sign.TheVariants as sign
 use Rattle.ck_text.specs.declared.token.Prefix.TheVariants as prefixes
 use Rattle.ck_text.specs.declared.token.Mark.TheVariants as marks
 use Rattle.ck_text.specs.Tokens.{Token}
 use Rattle.ck_text.specs.Tokens as token
-use Rattle.ck_text.specs.Texts.{Lead, prefix, binder, Text, truth, falsity, name, number, led, joined, closed, tokens, level, left_want, lead_level, rank, on_terms, lead_on_terms, is_term, suits, opens, Fits, IsText}
+use Rattle.ck_text.specs.Texts.{Lead, prefix, binder, Text, truth, falsity, name, number, closed, tokens, level, left_want, lead_level, rank, on_terms, lead_on_terms, is_term, suits, opens, IsText}
 use Rattle.ck_text.specs.Machine.{Frame, leading, operand, parenthesis, State, wanting, having, naming, named, sorting, sorted, want, asks, opened, reduced, guarded, leads, joins, closes, step, alone, finished, or_fault, after, run}
 use Rattle.ck_text.proofs.Tables.{want_most, term_suits}
 use Rattle.ck_text.proofs.Stacks.{Sits, Stands, Lasts, front, before, reduced_stands, reduced_front, reduced_want}

@@ -1,18 +1,14 @@
 -- The reader reads every text of the asked form from its tokens.
-use Rattle.std.proofs.Common.{◌≡◌, ℕ, zero, suc, ◌+◌, ◌≤◌, ◌<◌, Bool, true, false, ◌&&◌, List, [], ◌∷◌, ◌++◌, refl, sym, ap, ◌∙◌, arith, append_assoc, append-nil, Option, Some, None, Ok, Err, nat_le, nat_lt}
+use Rattle.std.proofs.Common.{◌≡◌, ℕ, suc, ◌+◌, ◌≤◌, ◌<◌, Bool, true, false, List, [], ◌∷◌, ◌++◌, refl, sym, ap, ◌∙◌, arith, append_assoc, append-nil, Some, None, Ok}
 use Rattle.std.proofs.lemmas.Bool.{le-leb, lt-leb, lt-ltb}
-use Rattle.std.specs.declared.result.Result.{Result}
-use Rattle.ck_base.specs.declared.decl.Sort.{Sort}
 use Rattle.ck_text.specs.declared.token.Sign.{Sign}
-use Rattle.ck_text.specs.declared.token.Sign.TheVariants as sign
 use Rattle.ck_text.specs.declared.token.Prefix.{Prefix}
 use Rattle.ck_text.specs.declared.token.Prefix.TheVariants as prefixes
-use Rattle.ck_text.specs.declared.token.Quantifier.{Quantifier}
 use Rattle.ck_text.specs.declared.token.Mark.TheVariants as marks
 use Rattle.ck_text.specs.Tokens.{Token}
 use Rattle.ck_text.specs.Tokens as token
 use Rattle.ck_text.specs.Texts.{Lead, prefix, binder, Text, truth, falsity, name, number, led, joined, closed, prefix_token, lead_tokens, tokens, level, left_want, right_want, lead_level, rank, on_terms, lead_on_terms, is_term, suits, opens, Fits, IsText}
-use Rattle.ck_text.specs.Machine.{Frame, leading, operand, parenthesis, State, wanting, having, naming, named, want, asks, opened, reduced, guarded, leads, joins, closes, step, alone, finished, or_fault, after, run, read}
+use Rattle.ck_text.specs.Machine.{Frame, leading, operand, parenthesis, State, wanting, having, naming, want, asks, opened, reduced, leads, joins, closes, step, alone, or_fault, after, run, read}
 use Rattle.ck_text.proofs.Tables.{left_least, left_most, binds, binds_lead}
 
 -- After the last token of a text, its right operands are still on the stack, and the innermost is there.

@@ -1,10 +1,10 @@
 -- What holds of the reader's stack at each token: it was read by the grammar, and it stands for the tokens that were read.
-use Rattle.std.proofs.Common.{◌≡◌, ℕ, zero, suc, ◌+◌, ◌≤◌, ◌<◌, Bool, true, false, List, [], ◌∷◌, ◌++◌, refl, ap, ◌∙◌, arith, append_assoc, Option, Some, None, nat_le}
+use Rattle.std.proofs.Common.{◌≡◌, ℕ, suc, ◌+◌, ◌≤◌, ◌<◌, Bool, true, List, [], ◌∷◌, ◌++◌, refl, ap, ◌∙◌, arith, append_assoc, Some, None, nat_le}
 use Rattle.std.proofs.lemmas.Bool.{cond_both, leb-false}
 use Rattle.ck_text.specs.declared.token.Mark.TheVariants as marks
 use Rattle.ck_text.specs.Tokens.{Token}
 use Rattle.ck_text.specs.Tokens as token
-use Rattle.ck_text.specs.Texts.{Lead, binder, Text, led, joined, closed, lead_tokens, tokens, level, left_want, right_want, lead_level, rank, on_terms, lead_on_terms, is_term, suits, opens, Fits}
+use Rattle.ck_text.specs.Texts.{binder, Text, led, joined, lead_tokens, tokens, level, left_want, right_want, lead_level, rank, on_terms, lead_on_terms, is_term, suits, opens, Fits}
 use Rattle.ck_text.specs.Machine.{Frame, leading, operand, parenthesis, State, wanting, having, naming, named, sorting, sorted, want, asks, opened, reduced}
 
 -- each frame may stand on those under it, and has a left operand by the grammar

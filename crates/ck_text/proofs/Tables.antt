@@ -1,9 +1,9 @@
 -- What the proofs need of the table of levels.
-use Rattle.std.proofs.Common.{◌≡◌, ℕ, zero, suc, ◌+◌, ◌≤◌, Bool, true, false, List, [], ◌∷◌, refl, arith}
+use Rattle.std.proofs.Common.{◌≡◌, suc, ◌≤◌, Bool, true, false, List, [], ◌∷◌, refl, arith}
 use Rattle.ck_text.specs.declared.token.Sign.{Sign}
 use Rattle.ck_text.specs.declared.token.Sign.TheVariants as sign
 use Rattle.ck_text.specs.declared.token.Prefix.TheVariants as prefixes
-use Rattle.ck_text.specs.Texts.{Lead, prefix, binder, level, left_want, right_want, lead_level, suits}
+use Rattle.ck_text.specs.Texts.{Lead, prefix, level, left_want, right_want, lead_level, suits}
 use Rattle.ck_text.specs.Machine.{Frame, leading, operand, parenthesis, want}
 
 pub left_least : (o : Sign) → level o ≤ left_want o
