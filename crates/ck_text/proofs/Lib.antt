@@ -4,3 +4,4 @@ pub mod Keeping
 pub mod Completing
 pub mod Rereading
 pub mod Exactness
+pub mod Meanings

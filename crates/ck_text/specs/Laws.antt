@@ -1,7 +1,9 @@
 -- What holds of the reader of terms and formulas.
-use Rattle.std.specs.Prelude.{◌≡◌, ℕ, Bool, List, [], ◌∷◌, ◌++◌, Ok, Err}
+use Rattle.std.specs.Prelude.{true, false, ◌≡◌, ℕ, Bool, List, [], ◌∷◌, ◌++◌, Ok, Err}
+use Rattle.std.specs.List.{list_all}
+use Rattle.std.specs.Option.{is_some}
 use Rattle.ck_text.specs.Tokens.{Token, AreTokens}
-use Rattle.ck_text.specs.Texts.{Text, tokens, IsText}
+use Rattle.ck_text.specs.Texts.{Text, tokens, IsText, Scope, term_of, formula_of, names_in, is_known}
 use Rattle.ck_text.specs.Machine.{read}
 
 -- some text of the asked form begins with these tokens, and goes on with tokens that can be written
@@ -30,3 +32,11 @@ ReadsExactly =
 -- two texts of the asked form with the same tokens are the same
 abbrev pub OneText : Type 0
 OneText = (limit : ℕ) (term : Bool) (a b : Text) → IsText limit term a → IsText limit term b → tokens a ≡ tokens b → a ≡ b
+
+-- a term means something exactly where each of its names does
+abbrev pub TermMeans : Type 0
+TermMeans = (limit : ℕ) (scope : Scope) (a : Text) → IsText limit true a → is_some (term_of scope a) ≡ list_all is_known (names_in scope a)
+
+-- so does a formula
+abbrev pub FormulaMeans : Type 0
+FormulaMeans = (limit : ℕ) (scope : Scope) (a : Text) → IsText limit false a → is_some (formula_of scope a) ≡ list_all is_known (names_in scope a)

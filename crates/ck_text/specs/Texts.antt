@@ -1,7 +1,7 @@
 -- Terms and formulas as they are written: the grammar by levels, the tokens of a text, and the tree that it means.
 use Rattle.std.specs.Prelude.{◌≡◌, ℕ, suc, ◌+◌, ◌-◌, ◌≤◌, ◌<◌, ◌==◌, ◌&&◌, nat_lt, not, Bool, true, false, pos, neg_ℤ, List, [], ◌∷◌, ◌++◌, length, Some, None, if◌then◌else◌}
 use Rattle.std.specs.declared.option.Option.{Option}
-use Rattle.std.specs.Option.{option_map}
+use Rattle.std.specs.Option.{option_map, is_some}
 use Rattle.std.specs.List.{list_all}
 use Rattle.std.specs.Str.{bytes_eq}
 use Rattle.ck_base.specs.Names.{is_digit, number_of}
@@ -140,13 +140,13 @@ rank (led l a) = lead_level l
 rank (joined o a b) = level o
 rank a = 11
 
+abbrev pub joins_terms : Joint → Bool
+joins_terms (formulas c) = false
+joins_terms (terms s) = true
+
 -- the operands are terms, and so is the whole; otherwise it is a formula, and each operand is one or a term
 abbrev pub on_terms : Sign → Bool
 on_terms o = joins_terms (joint o)
-  where
-    joins_terms : Joint → Bool
-    joins_terms (formulas c) = false
-    joins_terms (terms s) = true
 
 abbrev pub lead_on_terms : Lead → Bool
 lead_on_terms (prefix prefixes.Tilde) = false
@@ -240,16 +240,16 @@ both_of f a b = None
 -- `-` before a number is a negative literal, before all else a sign
 abbrev pub negated : Text → Option TermTree → Option TermTree
 negated (number n) t = Some (term.integer (neg_ℤ (pos n)))
-negated a t = option_map (λ t. term.unary term.minus t) t
+negated a t = option_map (term.unary term.minus) t
 
 -- a term with a lead, by its operand and what that means
 abbrev pub led_term : Lead → Text → Option TermTree → Option TermTree
 led_term (prefix prefixes.Minus) a t = negated a t
-led_term (prefix prefixes.Not) a t = option_map (λ t. term.unary term.denial t) t
+led_term (prefix prefixes.Not) a t = option_map (term.unary term.denial) t
 led_term l a t = None
 
 abbrev pub joined_term : Joint → Option TermTree → Option TermTree → Option TermTree
-joined_term (terms s) t u = both_of (λ t u. term.binary s t u) t u
+joined_term (terms s) t u = both_of (term.binary s) t u
 joined_term (formulas c) t u = None
 
 -- the term that a text means in a scope; none where a name means nothing, and where the text is no term
@@ -272,7 +272,7 @@ quantifier_of quantifiers.All = formula.for_all
 quantifier_of quantifiers.Ex = formula.there_is
 
 abbrev pub joined_formula : Joint → Option FormulaTree → Option FormulaTree → Option TermTree → Option FormulaTree
-joined_formula (formulas c) a b t = both_of (λ a b. formula.joined c a b) a b
+joined_formula (formulas c) a b t = both_of (formula.joined c) a b
 joined_formula (terms s) a b t = option_map formula.holds t
 
 -- The formula that a text means in a scope; none where a name means nothing. A term t means that t holds,
@@ -281,7 +281,7 @@ abbrev pub formula_of : Scope → Text → Option FormulaTree
 formula_of scope falsity = Some formula.bottom
 formula_of scope (led (prefix prefixes.Tilde) a) = option_map not_so (formula_of scope a)
 formula_of scope (led (binder q bytes s) a) =
-    option_map (λ a. formula.quantified (quantifier_of q) (sort_or_int s) a) (formula_of (under bytes scope) a)
+    option_map (formula.quantified (quantifier_of q) (sort_or_int s)) (formula_of (under bytes scope) a)
 formula_of scope (joined o a b) =
     joined_formula (joint o) (formula_of scope a) (formula_of scope b) (term_of scope (joined o a b))
 formula_of scope (closed a) = formula_of scope a
@@ -295,3 +295,7 @@ names_in scope (led l a) = names_in scope a
 names_in scope (joined o a b) = names_in scope a ++ names_in scope b
 names_in scope (closed a) = names_in scope a
 names_in scope a = []
+
+-- the name means something in its scope
+abbrev pub is_known : List ℕ × Scope → Bool
+is_known n = is_some (meaning_of n.1 n.0)

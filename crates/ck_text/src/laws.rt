@@ -1,6 +1,6 @@
 //! What holds of the reader of terms and formulas: laws that are proved.
 
-ghost use Rattle.ck_text.specs.Laws.{ReadsExactly, OneText};
+ghost use Rattle.ck_text.specs.Laws.{FormulaMeans, OneText, ReadsExactly, TermMeans};
 
 /// The reader reads the tokens of every text of the asked form, and no others, and where it stops no text
 /// goes on.
@@ -11,4 +11,10 @@ pub fn reads_exactly()
 /// A list of tokens is that of at most one text.
 pub fn one_text()
     ensures { OneText }
+{}
+
+/// A text means a tree exactly where each of its names means something.
+pub fn means_by_names()
+    ensures term { TermMeans }
+    ensures formula { FormulaMeans }
 {}
