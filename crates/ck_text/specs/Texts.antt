@@ -65,6 +65,23 @@ tokens (joined o a b) = tokens a ++ (token.joining o ∷ tokens b)
 tokens (closed a) = token.mark marks.Open ∷ (tokens a ++ (token.mark marks.Close ∷ []))
 
 -- # Grammar
+--
+--     expr  := ('all'|'ex') name [':' sort] '.' expr | disj ['=>' expr]
+--     disj  := conj ['\/' disj]
+--     conj  := neg ['/\' conj]
+--     neg   := '~' neg | or
+--     or    := and {'or' and}
+--     and   := not {'and' not}
+--     not   := 'not' not | cmp
+--     cmp   := sum [('='|'<'|'<=') sum]
+--     sum   := prod {('+'|'-') prod}
+--     prod  := unary {'*' unary}
+--     unary := '-' unary | atom
+--     atom  := number | name | 'true' | 'false' | 'bottom' | '(' expr ')'
+--     sort  := 'int' | 'bool'
+--
+-- Levels 0 to 11 count these from `expr` to `atom`, and an operand that the grammar asks as one of them has at
+-- least its level. `all`, `ex`, `=>`, `\/`, `/\`, `~` and `bottom` make formulas, all else makes terms.
 
 -- What a sign joins: two formulas by a connective, or two terms by a sign of terms.
 pub data Joint : Type 0 where
