@@ -1,3 +1,4 @@
+pub mod Scanning
 pub mod Tables
 pub mod Stacks
 pub mod Keeping

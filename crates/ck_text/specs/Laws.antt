@@ -2,7 +2,7 @@
 use Rattle.std.specs.Prelude.{true, false, ◌≡◌, ℕ, Bool, List, [], ◌∷◌, ◌++◌, Ok, Err}
 use Rattle.std.specs.List.{list_all}
 use Rattle.std.specs.Option.{is_some}
-use Rattle.ck_text.specs.Tokens.{Token, AreTokens}
+use Rattle.ck_text.specs.Tokens.{Token, none, IsToken, AreTokens, Placed, scan}
 use Rattle.ck_text.specs.Texts.{Text, tokens, IsText, Scope, term_of, formula_of, names_in, is_known}
 use Rattle.ck_text.specs.Machine.{read}
 
@@ -40,3 +40,12 @@ TermMeans = (limit : ℕ) (scope : Scope) (a : Text) → IsText limit true a →
 -- so does a formula
 abbrev pub FormulaMeans : Type 0
 FormulaMeans = (limit : ℕ) (scope : Scope) (a : Text) → IsText limit false a → is_some (formula_of scope a) ≡ list_all is_known (names_in scope a)
+
+-- each of the tokens can be written, or stands for none
+abbrev pub AreWritten : List Placed → Type 0
+AreWritten [] = Unit {0}
+AreWritten (p ∷ placed) = ((p.token ≡ none → ⊥) → IsToken p.token) × AreWritten placed
+
+-- the tokens of bytes are such tokens
+abbrev pub TokensAreWritten : Type 0
+TokensAreWritten = (bytes : List ℕ) → AreWritten (scan 0 bytes)

@@ -1,6 +1,6 @@
 //! What holds of the reader of terms and formulas: laws that are proved.
 
-ghost use Rattle.ck_text.specs.Laws.{FormulaMeans, OneText, ReadsExactly, TermMeans};
+ghost use Rattle.ck_text.specs.Laws.{FormulaMeans, OneText, ReadsExactly, TermMeans, TokensAreWritten};
 
 /// The reader reads the tokens of every text of the asked form, and no others, and where it stops no text
 /// goes on.
@@ -17,4 +17,9 @@ pub fn one_text()
 pub fn means_by_names()
     ensures term { TermMeans }
     ensures formula { FormulaMeans }
+{}
+
+/// The tokens of bytes can be written, except where a byte begins no token or a number is too large.
+pub fn tokens_are_written()
+    ensures { TokensAreWritten }
 {}
