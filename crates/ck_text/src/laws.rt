@@ -1,8 +1,25 @@
-//! What is proved of lines beyond single calls. The statement is in `specs/Laws.antt`.
+//! What holds of the reader of terms and formulas: laws that are proved.
 
-ghost use Rattle.ck_text.specs.Laws.{OneMeaning};
+ghost use Rattle.ck_text.specs.Laws.{FormulaMeans, OneText, ReadsExactly, TermMeans, TokensAreWritten};
 
-/// A line means at most one thing.
-pub fn one_meaning()
-    ensures { OneMeaning }
+/// The reader reads the tokens of every text of the asked form, and no others, and where it stops no text
+/// goes on.
+pub fn reads_exactly()
+    ensures { ReadsExactly }
+{}
+
+/// A list of tokens is that of at most one text.
+pub fn one_text()
+    ensures { OneText }
+{}
+
+/// A text means a tree exactly where each of its names means something.
+pub fn means_by_names()
+    ensures term { TermMeans }
+    ensures formula { FormulaMeans }
+{}
+
+/// The tokens of bytes can be written, except where a byte begins no token or a number is too large.
+pub fn tokens_are_written()
+    ensures { TokensAreWritten }
 {}

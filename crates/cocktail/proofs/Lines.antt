@@ -8,13 +8,13 @@ use Rattle.formulas.specs.Sorts.{fits, size}
 use Rattle.proof_terms.specs.Tree.{ProofTree, hypothesis, lambda, application}
 use Rattle.proof_terms.specs.Size.{proof_size}
 use Rattle.cert_codec.specs.Spelling.{is_built_formula, IsBuiltProof}
-use Rattle.ck_text.specs.declared.token.Token.{Token}
-use Rattle.ck_text.specs.declared.token.Token.TheVariants as token
-use Rattle.ck_text.specs.declared.lines.OpenHole.{OpenHole}
-use Rattle.ck_text.specs.Tokens.{is_blank, first_token, scan}
-use Rattle.ck_text.specs.Texts.{FormulaText, truth, falsity, closed, denied, implied, formula_of, formula_tokens, IsFormula, ProofText, numbered, abstraction, applied, proof_of, both_applied, proof_tokens, proof_nesting, HasFormulas}
-use Rattle.ck_text.specs.Lines.{LineText, spec_text, skip_text, intro_text, exact_text, export_text, line_tokens, IsLine, LineTree, spec, skip, intro, exact, export, hypotheses_at, line_of, is_text_byte, Means}
-use Rattle.ck_text.proofs.Readers.{mapped, both_there}
+use Rattle.script_reader.specs.declared.token.Token.{Token}
+use Rattle.script_reader.specs.declared.token.Token.TheVariants as token
+use Rattle.script_reader.specs.declared.lines.OpenHole.{OpenHole}
+use Rattle.script_reader.specs.Tokens.{is_blank, first_token, scan}
+use Rattle.script_reader.specs.Texts.{FormulaText, truth, falsity, closed, denied, implied, formula_of, formula_tokens, IsFormula, ProofText, numbered, abstraction, applied, proof_of, both_applied, proof_tokens, proof_nesting, HasFormulas}
+use Rattle.script_reader.specs.Lines.{LineText, spec_text, skip_text, intro_text, exact_text, export_text, line_tokens, IsLine, LineTree, spec, skip, intro, exact, export, hypotheses_at, line_of, is_text_byte, Means}
+use Rattle.script_reader.proofs.Readers.{mapped, both_there}
 use Rattle.cocktail.specs.Answers.{MayBe}
 
 -- ---- formulas and proofs out of texts

@@ -5,8 +5,8 @@ use Rattle.proof_terms.specs.Tree.{ProofTree}
 use Rattle.cert_codec.specs.Tree.{CertificateTree, skip as skip_node}
 use Rattle.cert_codec.specs.Spelling.{spell}
 use Rattle.cert_check.specs.Valid.{IsFileOf}
-use Rattle.ck_text.specs.Lines.{LineTree, spec, skip, intro, exact, export, Means}
-use Rattle.ck_text.specs.declared.lines.OpenHole.{OpenHole}
+use Rattle.script_reader.specs.Lines.{LineTree, spec, skip, intro, exact, export, Means}
+use Rattle.script_reader.specs.declared.lines.OpenHole.{OpenHole}
 use Rattle.derivation.specs.Derivation.{ProgressTree, programming, proving, finished, DerivationTree, open_hole, levels, certificate_of}
 use Rattle.derivation.specs.Steps.{Exports}
 use Rattle.derivation.specs.Printing.{open_text}

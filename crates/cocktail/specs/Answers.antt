@@ -7,7 +7,7 @@ use Rattle.cert_codec.specs.Spelling.{spell, is_built_formula, IsBuiltProof}
 use Rattle.cert_check.specs.Valid.{IsFileOf}
 use Rattle.formulas.specs.Sorts.{fits}
 use Rattle.proof_terms.specs.Size.{proof_size}
-use Rattle.ck_text.specs.Lines.{LineTree, spec, exact, export}
+use Rattle.script_reader.specs.Lines.{LineTree, spec, exact, export}
 use Rattle.derivation.specs.declared.derivation.Derivation.{Derivation}
 use Rattle.derivation.specs.Steps.{Exports}
 use Rattle.derivation.specs.Derived.{IsKept}

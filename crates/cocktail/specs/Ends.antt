@@ -9,7 +9,7 @@ use Rattle.cert_codec.specs.Spelling.{spell}
 use Rattle.cert_check.specs.Valid.{IsFileOf, Valid, KeepsPromise, Complaint, Complains}
 use Rattle.ck_base.specs.declared.outside.NamedBytes.{NamedBytes}
 use Rattle.ck_base.specs.Outside.{IsMissing, IsOther, Written, file, Becomes}
-use Rattle.ck_text.specs.Lines.{lines_of}
+use Rattle.script_reader.specs.Lines.{lines_of}
 use Rattle.cocktail.specs.Session.{Plays}
 use Rattle.cocktail.specs.Texts.{triple_text}
 use Rattle.cocktail.specs.Commands.{CommandTree, checking, deriving_to, Reads, line, complaint_line, Prints, exported_line, last_line, HoldsFront}

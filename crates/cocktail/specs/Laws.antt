@@ -6,7 +6,7 @@ use Rattle.cert_codec.specs.Spelling.{spell}
 use Rattle.cert_check.specs.Proves.{Proves}
 use Rattle.cert_check.specs.Valid.{IsFileOf}
 use Rattle.proof_terms.specs.Tree.{ProofTree}
-use Rattle.ck_text.specs.Lines.{export, Means}
+use Rattle.script_reader.specs.Lines.{export, Means}
 use Rattle.derivation.specs.Derivation.{DerivationTree, finished, open_hole}
 use Rattle.cocktail.specs.Session.{State, open_of, Replies, refused_line, unfinished_line, Leads, IsExported}
 

@@ -4,8 +4,8 @@ use Rattle.std.specs.declared.option.Option.{Option}
 use Rattle.std.specs.Option.{option_map}
 use Rattle.cert_codec.specs.Tree.{CertificateTree, checked_tree}
 use Rattle.cert_codec.specs.declared.certificate.Certificate.{Certificate}
-use Rattle.ck_text.specs.declared.lines.OpenHole.{OpenHole}
-use Rattle.ck_text.specs.Lines.{LineTree, spec, skip, intro, exact, export, is_blank_line, Means}
+use Rattle.script_reader.specs.declared.lines.OpenHole.{OpenHole}
+use Rattle.script_reader.specs.Lines.{LineTree, spec, skip, intro, exact, export, is_blank_line, Means}
 use Rattle.derivation.specs.declared.derivation.Derivation.{Derivation}
 use Rattle.derivation.specs.Derivation.{DerivationTree, derivation_tree, open_hole}
 use Rattle.derivation.specs.Steps.{begun, Skips, Introduces, Finishes, Exports}

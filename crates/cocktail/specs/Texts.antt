@@ -1,7 +1,7 @@
 -- What is printed of a valid file.
 use Rattle.std.specs.Prelude.{ℕ, List, ◌++◌, codes}
 use Rattle.formulas.specs.Tree.{FormulaTree}
-use Rattle.ck_text.specs.Printing.{formula_text}
+use Rattle.script_reader.specs.Printing.{formula_text}
 use Rattle.cert_codec.specs.Tree.{NodeTree, skip, CertificateTree}
 
 -- the program of a node

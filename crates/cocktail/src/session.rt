@@ -8,7 +8,7 @@ ghost use Rattle.proof_terms.specs.Size.{proof_size};
 ghost use Rattle.cert_codec.specs.Tree.{checked_tree};
 ghost use Rattle.cert_codec.specs.Spelling.{spell, is_built_formula, IsBuiltProof};
 ghost use Rattle.cert_check.specs.Valid.{IsFileOf};
-ghost use Rattle.ck_text.specs.Lines.{lines_of, line_tree, spec, skip, intro, exact, export};
+ghost use Rattle.script_reader.specs.Lines.{lines_of, line_tree, spec, skip, intro, exact, export};
 ghost use Rattle.derivation.specs.declared.derivation.StepFault.TheVariants as faults;
 ghost use Rattle.derivation.specs.Derivation.{DerivationTree, derivation_tree, open_hole};
 ghost use Rattle.derivation.specs.Derived.{IsKept};
@@ -20,7 +20,7 @@ ghost use Rattle.cocktail.specs.Answers.{IsKeptSession, MayBe, AnswersTo, Answer
 
 use cert_codec::Certificate;
 use ck_base::{NoMemory, Text};
-use ck_text::{Line, LineFault, OpenHole, is_blank_line, next_line, read_line};
+use script_reader::{Line, LineFault, OpenHole, is_blank_line, next_line, read_line};
 use derivation::{Derivation, StepFault};
 use std::alloc::Global;
 

@@ -7,7 +7,7 @@ ghost use Rattle.cocktail.specs.Texts.{triple_text, assertion_line};
 
 use cert_codec::{Certificate, Node};
 use ck_base::{NoMemory, Text};
-use ck_text::print_formula;
+use script_reader::print_formula;
 use formulas::Formula;
 use std::alloc::Global;
 

@@ -8,7 +8,7 @@ use Rattle.formulas.specs.Context.{hypotheses_of}
 use Rattle.proof_terms.specs.Tree.{ProofTree, lambda, proof_tree}
 use Rattle.proof_terms.specs.Size.{proof_depth, proof_size}
 use Rattle.cert_codec.specs.Tree.{skip, CertificateTree}
-use Rattle.ck_text.specs.declared.lines.OpenHole.{OpenHole}
+use Rattle.script_reader.specs.declared.lines.OpenHole.{OpenHole}
 use Rattle.derivation.specs.declared.derivation.Derivation.{Derivation}
 use Rattle.derivation.specs.declared.derivation.Progress.{Progress}
 use Rattle.derivation.specs.declared.derivation.Progress.TheVariants.{Programming, Proving, Finished}

@@ -1,7 +1,7 @@
 -- The printed line of the open hole.
 use Rattle.std.specs.Prelude.{ℕ, zero, suc, List, [], ◌∷◌, ◌++◌, reverse, decimal, codes}
 use Rattle.formulas.specs.Tree.{FormulaTree}
-use Rattle.ck_text.specs.Printing.{formula_text}
+use Rattle.script_reader.specs.Printing.{formula_text}
 use Rattle.derivation.specs.Derivation.{ProgressTree, programming, proving, finished, DerivationTree, proof_hole}
 
 -- what stands between two hypotheses

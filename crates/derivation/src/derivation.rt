@@ -17,7 +17,7 @@ ghost use Rattle.derivation.specs.Derived.{IsKept};
 use cert_codec::{Certificate, Node};
 use ck_base::limits::{CERTIFICATE_NODES, PROOF_DEPTH};
 use ck_base::{Decls, List, NoMemory};
-use ck_text::OpenHole;
+use script_reader::OpenHole;
 use formulas::{Context, Formula, copy, fits, same, size};
 use proof_terms::Proof;
 use std::alloc::Global;

@@ -9,7 +9,7 @@ ghost use Rattle.derivation.specs.Printing.{separator as separator_of, hypothese
 
 use crate::derivation::{Derivation, Progress, proof_hole};
 use ck_base::{NoMemory, Text};
-use ck_text::print_formula;
+use script_reader::print_formula;
 use formulas::{Context, Formula};
 use std::alloc::Global;
 

@@ -4,7 +4,7 @@ use Rattle.cert_codec.specs.Tree.{checked_tree}
 use Rattle.cert_codec.specs.Spelling.{spell}
 use Rattle.cert_check.specs.Valid.{IsFileOf}
 use Rattle.cert_check.proofs.Sound.{keeps_promise}
-use Rattle.ck_text.specs.Lines.{lines_of}
+use Rattle.script_reader.specs.Lines.{lines_of}
 use Rattle.cocktail.specs.Session.{Plays}
 use Rattle.cocktail.specs.Ends.{IsForeign}
 use Rattle.cocktail.proofs.derive.derive.Goals as goal

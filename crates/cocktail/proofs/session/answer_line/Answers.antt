@@ -1,7 +1,7 @@
 use Rattle.std.proofs.Common.{◌≡◌, refl, sym, subst, ◌∙◌, rules}
 use Rattle.std.specs.declared.option.Option.{Option}
-use Rattle.ck_text.specs.declared.lines.OpenHole.{OpenHole}
-use Rattle.ck_text.specs.Lines.{LineTree, line_tree, Means}
+use Rattle.script_reader.specs.declared.lines.OpenHole.{OpenHole}
+use Rattle.script_reader.specs.Lines.{LineTree, line_tree, Means}
 use Rattle.cocktail.specs.Session.{open_of, state_of, unread, refused_line}
 use Rattle.cocktail.proofs.Lines.{may_be}
 use Rattle.cocktail.proofs.Sessions.{answers_meant, there}

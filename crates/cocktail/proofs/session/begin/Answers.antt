@@ -1,6 +1,6 @@
 use Rattle.std.proofs.Common.{◌≡◌, ◌++◌, None, codes, refl, sym, subst}
-use Rattle.ck_text.specs.declared.lines.Line.{Line}
-use Rattle.ck_text.specs.Lines.{line_tree}
+use Rattle.script_reader.specs.declared.lines.Line.{Line}
+use Rattle.script_reader.specs.Lines.{line_tree}
 use Rattle.derivation.specs.Derivation.{derivation_tree}
 use Rattle.derivation.specs.Printing.{open_text}
 use Rattle.cocktail.specs.Session.{Accepts, accepted}

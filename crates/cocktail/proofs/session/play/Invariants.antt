@@ -1,5 +1,5 @@
 use Rattle.std.proofs.Common.{length}
-use Rattle.ck_text.specs.Lines.{lines_of}
+use Rattle.script_reader.specs.Lines.{lines_of}
 use Rattle.cocktail.specs.Session.{state_of}
 use Rattle.cocktail.specs.Answers.{IsKeptSession}
 use Rattle.cocktail.proofs.Sessions.{IsUnderway}

@@ -1,0 +1,6 @@
+pub mod Tokens
+pub mod Texts
+pub mod Lines
+pub mod Printing
+pub mod Reading
+pub mod Laws
