@@ -1,5 +1,5 @@
-ghost use Rattle.std.specs.Prelude.{IfOk};
-ghost use Rattle.sorted_terms.specs.Tree.{term_tree};
+ghost use Rattle.std.specs.Prelude.{◌≡◌, IfOk};
+ghost use Rattle.sorted_terms.specs.Tree.{term_tree, binary, plus};
 ghost use Rattle.sorted_terms.specs.Substitution.{HasTermIndicesBelow};
 
 use super::*;
@@ -7,7 +7,9 @@ use ck_base::{Decls, Kind, List, NoMemory, Sort};
 use std::alloc::Global;
 use std::test::Fail;
 
-fn add(alloc: Global, s: Term, t: Term) -> Result<Term, NoMemory> {
+fn add(alloc: Global, s: Term, t: Term) -> Result<Term, NoMemory>
+    ensures { IfOk result (λ r. term_tree r ≡ binary plus (term_tree s) (term_tree t)) }
+{
     Ok(Term::Add(Box::new(alloc, s)?, Box::new(alloc, t)?))
 }
 
