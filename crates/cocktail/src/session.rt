@@ -20,8 +20,8 @@ ghost use Rattle.cocktail.specs.Answers.{IsKeptSession, MayBe, AnswersTo, Answer
 
 use cert_codec::Certificate;
 use ck_base::{NoMemory, Text};
-use script_reader::{Line, LineFault, OpenHole, is_blank_line, next_line, read_line};
 use derivation::{Derivation, StepFault};
+use script_reader::{Line, LineFault, OpenHole, is_blank_line, next_line, read_line};
 use std::alloc::Global;
 
 /// What a script gave.

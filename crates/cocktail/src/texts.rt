@@ -7,8 +7,8 @@ ghost use Rattle.cocktail.specs.Texts.{triple_text, assertion_line};
 
 use cert_codec::{Certificate, Node};
 use ck_base::{NoMemory, Text};
-use script_reader::print_formula;
 use formulas::Formula;
+use script_reader::print_formula;
 use std::alloc::Global;
 
 /// The lines of a valid file: the word, the precondition, the program and the postcondition.

@@ -9,8 +9,8 @@ ghost use Rattle.derivation.specs.Printing.{separator as separator_of, hypothese
 
 use crate::derivation::{Derivation, Progress, proof_hole};
 use ck_base::{NoMemory, Text};
-use script_reader::print_formula;
 use formulas::{Context, Formula};
+use script_reader::print_formula;
 use std::alloc::Global;
 
 impl Derivation {

@@ -184,7 +184,6 @@ fn extends_contexts(rt: HostRuntime) -> Result<(), Fail> {
 }
 
 #[test]
-#[tactic(auto, unfolding(crate::specs::Sorts::fits), using(crate::proofs::Places::closed_shift, crate::proofs::Places::closed_instance, crate::proofs::Places::closed_replacement))]
 fn goes_deep(rt: HostRuntime) -> Result<(), Fail> {
     let alloc = rt.alloc();
     let a = levels(alloc, 1_024)?;

@@ -234,7 +234,6 @@ fn counts_expansions(rt: HostRuntime) -> Result<(), Fail> {
 }
 
 #[test]
-#[tactic(auto, using(crate::proofs::Past::closed_shift, crate::proofs::Past::closed_instance, crate::proofs::Past::closed_replacement))]
 fn goes_deep(rt: HostRuntime) -> Result<(), Fail> {
     let alloc = rt.alloc();
     let t = denials(alloc, 1_024)?;
