@@ -1,4 +1,5 @@
 pub mod Tokens
 pub mod Texts
 pub mod Machine
+pub mod Printing
 pub mod Laws
