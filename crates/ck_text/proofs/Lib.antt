@@ -8,3 +8,5 @@ pub mod Exactness
 pub mod Meanings
 pub mod Decimals
 pub mod Rescanning
+pub mod Fitting
+pub mod Naming
