@@ -37,7 +37,7 @@ opens_most : (o : Sign) → opens o ≤ 1
 opens_most o = cond_both (on_terms o) 0 1 (λ n. n ≤ 1) (λ e. omega arith) (λ e. omega arith)
 
 -- what a sign before a term takes, and what it takes of an integer
-minus_both : (P : Text → Type 0) (t : TermTree) (a : Text) → P (closed a) → P (at_level 10 a) → P (minus_operand t a)
+pub minus_both : (P : Text → Type 0) (t : TermTree) (a : Text) → P (closed a) → P (at_level 10 a) → P (minus_operand t a)
 minus_both P (term.name x) a h k = k
 minus_both P (term.index x) a h k = k
 minus_both P (term.integer n) a h k = h
@@ -46,7 +46,7 @@ minus_both P (term.unary s t) a h k = k
 minus_both P (term.binary s t u) a h k = k
 
 -- two formulas joined are written with `~`, or with the sign of the connective
-joined_both : (P : Text → Type 0) (c : Connective) (right : FormulaTree) (a b : Text) → P (with_lead (prefix prefixes.Tilde) a) → P (with_sign (connective_sign c) a b) → P (joined_text c right a b)
+pub joined_both : (P : Text → Type 0) (c : Connective) (right : FormulaTree) (a b : Text) → P (with_lead (prefix prefixes.Tilde) a) → P (with_sign (connective_sign c) a b) → P (joined_text c right a b)
 joined_both P formula.implies formula.bottom a b h k = h
 joined_both P formula.implies (formula.holds t) a b h k = k
 joined_both P formula.implies (formula.joined c x y) a b h k = k

@@ -10,3 +10,4 @@ pub mod Decimals
 pub mod Rescanning
 pub mod Fitting
 pub mod Naming
+pub mod Returning

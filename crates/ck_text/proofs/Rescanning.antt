@@ -190,7 +190,7 @@ lead_scans (binder q bytes s) rest h =
 
 -- # Texts
 
-are_parts : (ts us : List Token) → AreTokens (ts ++ us) → AreTokens ts × AreTokens us
+pub are_parts : (ts us : List Token) → AreTokens (ts ++ us) → AreTokens ts × AreTokens us
 are_parts [] us h = (tt, h)
 are_parts (t ∷ ts) us h = let p = are_parts ts us h.1 in ((h.0, p.0), p.1)
 

@@ -1,5 +1,5 @@
-use Rattle.ck_text.proofs.Naming.{name_means, index_means, variable_is_word, name_word}
 use Rattle.ck_text.proofs.Fitting.{term_text_is, formula_text_is}
+use Rattle.ck_text.proofs.Returning.{term_text_means, formula_text_means}
 use Rattle.ck_text.proofs.laws.trees_have_texts.Goals as goal
 
 pub returns-clause-term : goal.returns-clause-term
@@ -9,7 +9,7 @@ pub returns-clause-formula : goal.returns-clause-formula
 returns-clause-formula c = formula_text_is
 
 pub returns-clause-term_meaning : goal.returns-clause-term_meaning
-returns-clause-term_meaning c = ?
+returns-clause-term_meaning c = term_text_means
 
 pub returns-clause-formula_meaning : goal.returns-clause-formula_meaning
-returns-clause-formula_meaning c = ?
+returns-clause-formula_meaning c = formula_text_means
