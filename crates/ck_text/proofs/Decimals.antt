@@ -34,7 +34,14 @@ one : (n : ℕ) → n < 10 → Plain n ((48 + n) ∷ [])
 one n h =
     let is : is_digit (48 + n) ≡ true = digit_is (48 + n) (omega arith) (omega (arith, h)) in
     record {
-      first = 48 + n; more = []; whole = refl; digit = is; digits = refl; nonzero = (λ p. ne_eqb (48 + n) 48 (λ e. omega (arith, e, p))); value = omega arith; without = is
+      first = 48 + n;
+      more = [];
+      whole = refl;
+      digit = is;
+      digits = refl;
+      nonzero = (λ p. ne_eqb (48 + n) 48 (λ e. omega (arith, e, p)));
+      value = omega arith;
+      without = is;
     }
 
 more : (n : ℕ) (ds : List ℕ) → 10 ≤ n → Plain (n / 10) ds → Plain n (ds ++ (48 + n % 10) ∷ [])
@@ -44,9 +51,14 @@ more n ds h p =
     let all : list_all is_digit (p.more ++ d ∷ []) ≡ true = list_all-append is_digit p.more (d ∷ []) ∙ rw (p.digits, is) refl in
     let some : (p.first == 48) ≡ false = p.nonzero (omega (arith, h)) in
     record {
-      first = p.first; more = p.more ++ d ∷ []; whole = ap (λ l. l ++ d ∷ []) p.whole; digit = p.digit; digits = all; nonzero = (λ q. some);
+      first = p.first;
+      more = p.more ++ d ∷ [];
+      whole = ap (λ l. l ++ d ∷ []) p.whole;
+      digit = p.digit;
+      digits = all;
+      nonzero = (λ q. some);
       value = value_more 0 ds d ∙ omega (arith, p.value);
-      without = subst (λ l. is_decimal (l ++ d ∷ []) ≡ true) (sym p.whole) (decimal_more p.first p.more d p.digit some all)
+      without = subst (λ l. is_decimal (l ++ d ∷ []) ≡ true) (sym p.whole) (decimal_more p.first p.more d p.digit some all);
     }
 
 pub plain : (n : ℕ) → n < 10 ^ 64 → Plain n (decimal n)

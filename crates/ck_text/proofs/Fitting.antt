@@ -77,8 +77,7 @@ module _ (limit : ℕ) where
   sign_roomy o j k a b kind kind' room room' around h =
       let x : j ≤ max j k = le-max_left j k in
       let y : k ≤ max j k = le-max_right j k in
-      let z : opens o ≤ 1 = opens_most o in
-      (
+      let z : opens o ≤ 1 = opens_most o in (
         level_rank (left_want o) a (left_bound o),
         level_rank (right_want o) b (right_most o),
         ap (suits (on_terms o)) (level_kind (left_want o) a) ∙ kind,

@@ -179,13 +179,13 @@ lead_scans : (l : Lead) (rest : List ℕ) → AreTokens (lead_tokens l) → bare
 lead_scans (prefix p) rest h = prefix_scans p rest
 lead_scans (binder q bytes s) rest h =
     ap (λ l. bare (scan 0 l)) (
-      append_assoc (quantifier_bytes q) (bytes ++ (sort_bytes s ++ codes ". ")) rest
-      ∙ ap (λ l. quantifier_bytes q ++ l) (append_assoc bytes (sort_bytes s ++ codes ". ") rest ∙ ap (λ l. bytes ++ l) (append_assoc (sort_bytes s) (codes ". ") rest))
+    append_assoc (quantifier_bytes q) (bytes ++ (sort_bytes s ++ codes ". ")) rest
+    ∙ ap (λ l. quantifier_bytes q ++ l) (append_assoc bytes (sort_bytes s ++ codes ". ") rest ∙ ap (λ l. bytes ++ l) (append_assoc (sort_bytes s) (codes ". ") rest))
     )
     ∙ quantifier_scans q (bytes ++ (sort_bytes s ++ (codes ". " ++ rest)))
     ∙ ap (λ ts. token.quantifier q ∷ ts) (
-      name_scans bytes (sort_bytes s ++ (codes ". " ++ rest)) h.1.0 (sort_ends s rest)
-      ∙ ap (λ ts. token.word bytes ∷ ts) (sort_scans s rest)
+    name_scans bytes (sort_bytes s ++ (codes ". " ++ rest)) h.1.0 (sort_ends s rest)
+    ∙ ap (λ ts. token.word bytes ∷ ts) (sort_scans s rest)
     )
 
 -- # Texts
@@ -209,8 +209,8 @@ text_scans (led l a) rest h e =
 text_scans (joined o a b) rest h e =
     let p = are_parts (tokens a) (token.joining o ∷ tokens b) h in
     ap (λ l. bare (scan 0 l)) (
-      append_assoc (printed a) (codes " " ++ (sign_bytes o ++ (codes " " ++ printed b))) rest
-      ∙ ap (λ l. printed a ++ (codes " " ++ l)) (append_assoc (sign_bytes o) (codes " " ++ printed b) rest)
+    append_assoc (printed a) (codes " " ++ (sign_bytes o ++ (codes " " ++ printed b))) rest
+    ∙ ap (λ l. printed a ++ (codes " " ++ l)) (append_assoc (sign_bytes o) (codes " " ++ printed b) rest)
     )
     ∙ text_scans a (codes " " ++ (sign_bytes o ++ (codes " " ++ (printed b ++ rest)))) p.0 refl
     ∙ ap (λ ts. tokens a ++ ts) (joins_scan o (printed b ++ rest) ∙ ap (λ ts. token.joining o ∷ ts) (text_scans b rest p.1.1 e))
@@ -220,9 +220,9 @@ text_scans (closed a) rest h e =
     ap (λ l. bare (scan 0 (codes "(" ++ l))) (append_assoc (printed a) (codes ")") rest)
     ∙ open_scans (printed a ++ (codes ")" ++ rest))
     ∙ ap (λ ts. token.mark marks.Open ∷ ts) (
-      text_scans a (codes ")" ++ rest) p.0 refl
-      ∙ ap (λ ts. tokens a ++ ts) (close_scans rest)
-      ∙ sym (append_assoc (tokens a) (token.mark marks.Close ∷ []) (bare (scan 0 rest)))
+    text_scans a (codes ")" ++ rest) p.0 refl
+    ∙ ap (λ ts. tokens a ++ ts) (close_scans rest)
+    ∙ sym (append_assoc (tokens a) (token.mark marks.Close ∷ []) (bare (scan 0 rest)))
     )
 
 pub printed_scans : PrintedScans
