@@ -2,7 +2,7 @@
 use Rattle.std.proofs.Common.{arith, ◌≡◌, ℕ, zero, suc, ◌+◌, ◌*◌, ◌-◌, ◌/◌, ◌%◌, ◌^◌, ◌≤◌, ◌<◌, ◌==◌, Bool, true, false, ◌&&◌, List, [], ◌∷◌, ◌++◌, decimal, refl, sym, ap, ◌∙◌, subst}
 use Rattle.std.specs.List.{list_all}
 use Rattle.std.proofs.lemmas.Bool.{le-leb, eqb-false, ne_eqb}
-use Rattle.std.proofs.lemmas.Fmt.{decimal_by_steps_wide}
+use Rattle.std.proofs.lemmas.Fmt.{decimal_by_steps_wide, decimal_step_wide, decimal_digit}
 use Rattle.std.proofs.lemmas.List.Folds.{list_all-append}
 use Rattle.ck_base.specs.Names.{is_digit}
 use Rattle.ck_text.specs.Tokens.{value_from}
@@ -63,3 +63,10 @@ more n ds h p =
 
 pub plain : (n : ℕ) → n < 10 ^ 64 → Plain n (decimal n)
 plain n h = decimal_by_steps_wide Plain one more n h
+
+-- the digits of a number below 10, and of one that is not, in which the last digit stands at the end
+pub only_digit : (n : ℕ) → n < 10 → decimal n ≡ (48 + n) ∷ []
+only_digit n h = decimal_digit n h
+
+pub last_digit : (n : ℕ) → 10 ≤ n → n < 2 ^ 128 → decimal n ≡ decimal (n / 10) ++ ((48 + n % 10) ∷ [])
+last_digit n h few = decimal_step_wide n h (omega (arith, few))

@@ -2,4 +2,5 @@ pub mod Tokens
 pub mod Texts
 pub mod Machine
 pub mod Printing
+pub mod Printers
 pub mod Laws

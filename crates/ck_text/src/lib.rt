@@ -6,6 +6,8 @@
 #![tactic(auto)]
 
 pub mod laws;
+mod printing;
 pub mod token;
 
+pub use printing::{print_formula, print_term};
 pub use token::{Mark, Prefix, Quantifier, Sign};
