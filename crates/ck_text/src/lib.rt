@@ -11,3 +11,6 @@ pub mod token;
 
 pub use printing::{print_formula, print_term};
 pub use token::{Mark, Prefix, Quantifier, Sign};
+
+#[cfg(test)]
+mod tests;

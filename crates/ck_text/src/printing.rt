@@ -15,12 +15,7 @@ use formulas::Formula;
 use sorted_terms::Term;
 
 /// Adds the text of the term, as it stands alone. After `NoMemory` the text is as before.
-pub fn print_term(
-    decls: &Decls,
-    scope: Scope,
-    t: &Term,
-    out: &mut Text,
-) -> Result<(), NoMemory>
+pub fn print_term(decls: &Decls, scope: Scope, t: &Term, out: &mut Text) -> Result<(), NoMemory>
     ensures ok { OnOk result (out.new ≡ out.old ++ term_bytes decls.now scope.sorts (term_tree t.now)) }
     ensures err { OnErr result (out.new ≡ out.old) }
 {
@@ -79,12 +74,7 @@ fn write_term(
 }
 
 #[cycle(term)]
-fn write_bare_term(
-    decls: &Decls,
-    around: u64,
-    t: &Term,
-    out: &mut Text,
-) -> Result<(), NoMemory>
+fn write_bare_term(decls: &Decls, around: u64, t: &Term, out: &mut Text) -> Result<(), NoMemory>
     ensures ok { OnOk result (out.new ≡ out.old ++ printed (term_text decls.now around (term_tree t.now))) }
     ensures err { OnErr result (Extends out.old out.new) }
 {
