@@ -11,3 +11,4 @@ pub mod Rescanning
 pub mod Fitting
 pub mod Naming
 pub mod Returning
+pub mod Sorted

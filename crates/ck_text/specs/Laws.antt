@@ -2,16 +2,17 @@
 use Rattle.std.specs.Prelude.{true, false, ◌≡◌, ℕ, ◌≤◌, ◌<◌, ◌^◌, Bool, List, [], ◌∷◌, ◌++◌, length, Some, Ok, Err}
 use Rattle.std.specs.List.{list_all}
 use Rattle.std.specs.Option.{is_some}
+use Rattle.ck_base.specs.declared.decl.Sort.{Sort}
 use Rattle.ck_base.specs.declared.decl.Decl.{Decl}
 use Rattle.ck_base.specs.Names.{AreNames}
 use Rattle.sorted_terms.specs.Tree.{TermTree}
-use Rattle.sorted_terms.specs.Sorts.{term_depth}
+use Rattle.sorted_terms.specs.Sorts.{sort_of, term_depth}
 use Rattle.formulas.specs.Tree.{FormulaTree}
-use Rattle.formulas.specs.Sorts.{depth}
+use Rattle.formulas.specs.Sorts.{well_sorted, depth}
 use Rattle.ck_text.specs.Tokens.{Token, none, IsToken, AreTokens, Placed, scan, bare}
 use Rattle.ck_text.specs.Texts.{Text, tokens, IsText, Scope, term_of, formula_of, names_in, is_known}
 use Rattle.ck_text.specs.Machine.{read}
-use Rattle.ck_text.specs.Printing.{term_text, formula_text, printed, term_bytes, formula_bytes, TermHasText, FormulaHasText}
+use Rattle.ck_text.specs.Printing.{term_text, formula_text, printed, term_bytes, formula_bytes, TermHasText, FormulaHasText, HasSmallTermIntegers, HasSmallIntegers}
 
 -- some text of the asked form begins with these tokens, and goes on with tokens that can be written
 abbrev pub Begins : (limit : ℕ) (term : Bool) → List Token → Type 0
@@ -70,6 +71,18 @@ TermTextIs = (names : List Decl) (around : ℕ) (t : TermTree) → term_depth t 
 -- so is that of a formula
 abbrev pub FormulaTextIs : Type 0
 FormulaTextIs = (names : List Decl) (around : ℕ) (a : FormulaTree) → depth a ≤ 256 → IsText 512 false (formula_text names around a)
+
+-- a term that has a sort has a text, where its integers can be written
+abbrev pub SortedTermHasText : Type 0
+SortedTermHasText =
+    (names : List Decl) (variables : List Sort) (t : TermTree) (s : Sort)
+    → sort_of names variables t ≡ Some s → HasSmallTermIntegers t → TermHasText (length names) (length variables) t
+
+-- so has a well-sorted formula
+abbrev pub SortedFormulaHasText : Type 0
+SortedFormulaHasText =
+    (names : List Decl) (variables : List Sort) (a : FormulaTree)
+    → well_sorted names variables a ≡ true → HasSmallIntegers a → FormulaHasText (length names) (length variables) a
 
 -- the scope of a whole text under declarations and so many variables
 abbrev pub whole_scope : List Decl → ℕ → Scope

@@ -164,3 +164,19 @@ FormulaHasText declared around formula.bottom = Unit {0}
 FormulaHasText declared around (formula.holds t) = TermHasText declared around t
 FormulaHasText declared around (formula.joined c a b) = FormulaHasText declared around a × FormulaHasText declared around b
 FormulaHasText declared around (formula.quantified q s a) = FormulaHasText declared (suc around) a
+
+-- the absolute value of every integer of the term is below 2^127
+abbrev pub HasSmallTermIntegers : TermTree → Type 0
+HasSmallTermIntegers (term.name x) = Unit {0}
+HasSmallTermIntegers (term.index k) = Unit {0}
+HasSmallTermIntegers (term.integer n) = unsigned_abs n < 2 ^ 127
+HasSmallTermIntegers (term.boolean b) = Unit {0}
+HasSmallTermIntegers (term.unary s t) = HasSmallTermIntegers t
+HasSmallTermIntegers (term.binary s t u) = HasSmallTermIntegers t × HasSmallTermIntegers u
+
+-- the same of a formula
+abbrev pub HasSmallIntegers : FormulaTree → Type 0
+HasSmallIntegers formula.bottom = Unit {0}
+HasSmallIntegers (formula.holds t) = HasSmallTermIntegers t
+HasSmallIntegers (formula.joined c a b) = HasSmallIntegers a × HasSmallIntegers b
+HasSmallIntegers (formula.quantified q s a) = HasSmallIntegers a

@@ -1,6 +1,6 @@
 //! What holds of the reader of terms and formulas: laws that are proved.
 
-ghost use Rattle.ck_text.specs.Laws.{FormulaMeans, FormulaReadsBack, FormulaTextIs, FormulaTextMeans, OneText, PrintedScans, ReadsExactly, TermMeans, TermReadsBack, TermTextIs, TermTextMeans, TokensAreWritten};
+ghost use Rattle.ck_text.specs.Laws.{FormulaMeans, FormulaReadsBack, FormulaTextIs, FormulaTextMeans, OneText, PrintedScans, ReadsExactly, SortedFormulaHasText, SortedTermHasText, TermMeans, TermReadsBack, TermTextIs, TermTextMeans, TokensAreWritten};
 
 /// The reader reads the tokens of every text of the asked form, and no others, and where it stops no text
 /// goes on.
@@ -29,8 +29,10 @@ pub fn printed_scans()
     ensures { PrintedScans }
 {}
 
-/// The text of a tree is one of the form, and it means the tree.
+/// The text of a tree is one of the form, and it means the tree. Well-sorted trees have texts.
 pub fn trees_have_texts()
+    ensures sorted_term { SortedTermHasText }
+    ensures sorted_formula { SortedFormulaHasText }
     ensures term { TermTextIs }
     ensures formula { FormulaTextIs }
     ensures term_meaning { TermTextMeans }
