@@ -1,5 +1,5 @@
 -- The text of a tree is built by the grammar, and nests at most twice as deep as the tree.
-use Rattle.std.proofs.Common.{arith, ◌≡◌, ℕ, suc, ◌+◌, ◌≤◌, ◌<◌, max, pos, negsuc, Bool, true, false, nat_le, List, Some, refl, ap, ◌∙◌}
+use Rattle.std.proofs.Common.{arith, ◌≡◌, ℕ, suc, ◌+◌, ◌≤◌, max, pos, negsuc, Bool, true, false, nat_le, List, Some, refl, ap, ◌∙◌}
 use Rattle.std.proofs.lemmas.Bool.{cond_both, leb-true}
 use Rattle.std.proofs.Math.Nat.{le-max_left, le-max_right}
 use Rattle.ck_base.specs.declared.decl.Decl.{Decl}

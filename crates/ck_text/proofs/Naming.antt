@@ -1,17 +1,16 @@
 -- The names that are printed: which one each is, and what it means in its scope.
-use Rattle.std.proofs.Common.{arith, ◌≡◌, ℕ, zero, suc, ◌+◌, ◌-◌, ◌^◌, ◌≤◌, ◌<◌, ◌==◌, Bool, true, false, not, ◌&&◌, ◌||◌, nat_le, nat_lt, List, [], ◌∷◌, length, slice_get, Option, Some, None, codes, decimal, refl, sym, ap, ◌∙◌, subst, ⊎_elim}
+use Rattle.std.proofs.Common.{arith, ◌≡◌, ℕ, zero, suc, ◌+◌, ◌-◌, ◌^◌, ◌≤◌, ◌<◌, ◌==◌, Bool, true, false, not, ◌&&◌, ◌||◌, nat_le, List, [], ◌∷◌, length, slice_get, Some, None, decimal, refl, sym, ap, ◌∙◌, subst, ⊎_elim}
 use Rattle.std.specs.List.{list_all, list_any}
-use Rattle.std.specs.Option.{option_map}
 use Rattle.std.specs.Str.{bytes_eq}
 use Rattle.std.proofs.lemmas.Bool.{true≢false, and_parts, or_left, false_from_ne_true, leb-true, lt-ltb, ne_eqb, cases_lt}
 use Rattle.std.proofs.lemmas.Slice.Eq.{bytes_eq-Decides}
 use Rattle.ck_base.specs.Names.{is_letter, is_digit, is_name_byte, is_name, is_new, AreNames, number_of, reserved_words}
 use Rattle.ck_base.specs.declared.decl.Decl.{Decl}
 use Rattle.sorted_terms.specs.Tree as term
-use Rattle.ck_text.specs.Tokens.{begins_word, is_word, value_from}
-use Rattle.ck_text.specs.Texts.{Scope, place_of, is_decimal, variable_of, first_of, meaning_of}
+use Rattle.ck_text.specs.Tokens.{is_word, value_from}
+use Rattle.ck_text.specs.Texts.{Scope, place_of, variable_of, meaning_of}
 use Rattle.ck_text.specs.Printing.{variable_name, name_of}
-use Rattle.ck_text.proofs.Decimals.{Plain, plain}
+use Rattle.ck_text.proofs.Decimals.{plain}
 
 same_bytes : (a : List ℕ) → bytes_eq a a ≡ true
 same_bytes a = (bytes_eq-Decides a a).1 refl

@@ -1,5 +1,5 @@
 -- The text of a tree means the tree, its tokens can be written, and its printed bytes are read back.
-use Rattle.std.proofs.Common.{arith, ◌≡◌, ℕ, suc, ◌+◌, ◌-◌, ◌^◌, ◌≤◌, ◌<◌, max, ℤ, pos, negsuc, unsigned_abs, Bool, true, false, nat_le, List, [], ◌∷◌, ◌++◌, length, Option, Some, None, Ok, refl, sym, ap, ap₂, ◌∙◌, subst}
+use Rattle.std.proofs.Common.{arith, ◌≡◌, ℕ, suc, ◌+◌, ◌-◌, ◌^◌, ◌≤◌, ◌<◌, max, pos, negsuc, Bool, true, false, nat_le, List, [], ◌∷◌, ◌++◌, length, Option, Some, refl, sym, ap, ap₂, ◌∙◌, subst}
 use Rattle.std.specs.Option.{option_map}
 use Rattle.std.proofs.lemmas.Bool.{cond_both}
 use Rattle.std.proofs.Math.Nat.{le-max_left, le-max_right}
@@ -15,14 +15,14 @@ use Rattle.ck_text.specs.declared.token.Prefix.TheVariants as prefixes
 use Rattle.ck_text.specs.declared.token.Mark.TheVariants as marks
 use Rattle.ck_text.specs.Tokens.{Token, AreTokens, bare, scan}
 use Rattle.ck_text.specs.Tokens as token
-use Rattle.ck_text.specs.Texts.{Joint, formulas, terms, joint, Lead, prefix, binder, Text, truth, falsity, name, number, led, joined, closed, left_want, right_want, lead_level, rank, prefix_token, lead_tokens, tokens, IsText, Scope, under, both_of, negated, joined_term, term_of, quantifier_of, joined_formula, formula_of}
+use Rattle.ck_text.specs.Texts.{formulas, terms, joint, prefix, Text, truth, falsity, name, number, led, joined, closed, left_want, right_want, rank, tokens, IsText, Scope, under, both_of, negated, joined_term, term_of, quantifier_of, joined_formula, formula_of}
 use Rattle.ck_text.specs.Machine.{read}
-use Rattle.ck_text.specs.Printing.{at_level, with_lead, with_sign, variable_name, minus_operand, term_sign, term_text, connective_sign, joined_text, quantifier_word, formula_text, printed, TermHasText, FormulaHasText}
+use Rattle.ck_text.specs.Printing.{at_level, with_sign, variable_name, minus_operand, term_sign, term_text, connective_sign, joined_text, quantifier_word, formula_text, printed, TermHasText, FormulaHasText}
 use Rattle.ck_text.specs.Laws.{whole_scope, TermTextMeans, FormulaTextMeans, ReadsAs, TermReadsBack, FormulaReadsBack}
 use Rattle.ck_text.proofs.Rereading.{whole_read}
-use Rattle.ck_text.proofs.Rescanning.{printed_scans, are_parts}
+use Rattle.ck_text.proofs.Rescanning.{printed_scans}
 use Rattle.ck_text.proofs.Fitting.{minus_both, joined_both, term_text_is, formula_text_is}
-use Rattle.ck_text.proofs.Naming.{bound_names, printed_scope, name_means, index_means, variable_is_word, name_word}
+use Rattle.ck_text.proofs.Naming.{printed_scope, name_means, index_means, variable_is_word, name_word}
 
 -- # Parts
 

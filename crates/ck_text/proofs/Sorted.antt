@@ -1,5 +1,5 @@
 -- What has a sort has a text: its names are declared and its indices are those of variables.
-use Rattle.std.proofs.Common.{◌≡◌, ℕ, ◌<◌, Bool, true, false, ◌&&◌, List, ◌∷◌, length, slice_get, Option, Some, None, refl, if◌then◌else◌}
+use Rattle.std.proofs.Common.{◌≡◌, ℕ, ◌<◌, Bool, true, false, List, ◌∷◌, length, slice_get, Option, Some, None, refl, if◌then◌else◌}
 use Rattle.std.specs.Option.{option_map}
 use Rattle.std.proofs.lemmas.Bool.{and_parts}
 use Rattle.std.proofs.lemmas.Option.{slice_get_within}
@@ -12,7 +12,6 @@ use Rattle.sorted_terms.specs.Sorts.{unary_takes, binary_takes, has_sort, sort_o
 use Rattle.formulas.specs.Tree.{FormulaTree}
 use Rattle.formulas.specs.Tree as formula
 use Rattle.formulas.specs.Sorts.{well_sorted}
-use Rattle.ck_text.specs.Printing.{TermHasText, FormulaHasText, HasSmallTermIntegers, HasSmallIntegers}
 use Rattle.ck_text.specs.Laws.{SortedTermHasText, SortedFormulaHasText}
 
 passed : {A : Type 0} (test : Bool) (a b : A) → (if test then Some a else None) ≡ Some b → test ≡ true

@@ -1,5 +1,5 @@
 -- Words for what the parts of the printer write.
-use Rattle.std.specs.Prelude.{◌≡◌, ℕ, Bool, true, false, List, ◌++◌, codes}
+use Rattle.std.specs.Prelude.{◌≡◌, ℕ, Bool, true, false, List, ◌++◌}
 use Rattle.sorted_terms.specs.Tree.{TermTree}
 use Rattle.sorted_terms.specs.Tree as term
 use Rattle.formulas.specs.Tree.{FormulaTree}

@@ -1,5 +1,5 @@
 -- The written text of a tree, by levels, and its bytes.
-use Rattle.std.specs.Prelude.{ℕ, suc, ◌+◌, ◌-◌, ◌^◌, ◌<◌, nat_le, ℤ, pos, negsuc, unsigned_abs, true, false, List, [], ◌∷◌, ◌++◌, slice_get, Some, None, if◌then◌else◌, codes, decimal}
+use Rattle.std.specs.Prelude.{ℕ, suc, ◌-◌, ◌^◌, ◌<◌, nat_le, ℤ, pos, negsuc, unsigned_abs, true, false, List, [], ◌++◌, slice_get, Some, None, if◌then◌else◌, codes, decimal}
 use Rattle.std.specs.declared.option.Option.{Option}
 use Rattle.ck_base.specs.declared.decl.Sort.{Sort}
 use Rattle.ck_base.specs.declared.decl.Sort.TheVariants as sorts

@@ -1,4 +1,4 @@
-use Rattle.std.proofs.Common.{arith, ◌≡◌, ◌≤◌, ◌<◌, ◌+◌, ◌/◌, ◌%◌, ◌^◌, ◌++◌, ◌∷◌, [], OnOk, sym, ap, ◌∙◌, subst, append_assoc, decimal}
+use Rattle.std.proofs.Common.{arith, ◌≡◌, ◌≤◌, ◌+◌, ◌/◌, ◌%◌, ◌++◌, ◌∷◌, [], OnOk, sym, ap, ◌∙◌, subst, append_assoc, decimal}
 use Rattle.ck_text.proofs.Decimals.{last_digit}
 use Rattle.ck_text.proofs.printing.+write_decimal.Goals as goal
 
