@@ -64,7 +64,7 @@ term_sign term.both = sign.Both
 term_sign term.either = sign.Either
 
 -- The text of a term under declarations and so many variables around it: those in scope, and one for each
--- quantifier around. The index of the innermost is 0.
+-- quantifier around. The index of the innermost is 0, and its name has the highest number.
 abbrev pub term_text : List Decl → (around : ℕ) → TermTree → Text
 term_text names around (term.name x) = name (name_of (slice_get names x))
 term_text names around (term.index k) = name (variable_name (around - 1 - k))

@@ -14,7 +14,8 @@ use ck_base::{Decls, NoMemory, Scope, Sort, Text};
 use formulas::Formula;
 use sorted_terms::Term;
 
-/// Adds the text of the term, as it stands alone. After `NoMemory` the text is as before.
+/// Adds the text of the term, as it stands alone in the scope. Where its names are declared and its indices
+/// are those of variables in scope, that text means the term. After `NoMemory` the text is as before.
 pub fn print_term(decls: &Decls, scope: Scope, t: &Term, out: &mut Text) -> Result<(), NoMemory>
     ensures ok { OnOk result (out.new ≡ out.old ++ term_bytes decls.now scope.sorts (term_tree t.now)) }
     ensures err { OnErr result (out.new ≡ out.old) }
@@ -29,7 +30,9 @@ pub fn print_term(decls: &Decls, scope: Scope, t: &Term, out: &mut Text) -> Resu
     }
 }
 
-/// Adds the text of the formula, as it stands alone. After `NoMemory` the text is as before.
+/// Adds the text of the formula, which has less than 2^32 levels, as it stands alone in the scope. Where its
+/// names are declared and its indices are those of variables around, that text means the formula. After
+/// `NoMemory` the text is as before.
 pub fn print_formula(
     decls: &Decls,
     scope: Scope,
