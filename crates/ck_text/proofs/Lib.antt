@@ -6,3 +6,9 @@ pub mod Completing
 pub mod Rereading
 pub mod Exactness
 pub mod Meanings
+pub mod Decimals
+pub mod Rescanning
+pub mod Fitting
+pub mod Naming
+pub mod Returning
+pub mod Sorted

@@ -1,6 +1,6 @@
 //! What holds of the reader of terms and formulas: laws that are proved.
 
-ghost use Rattle.ck_text.specs.Laws.{FormulaMeans, OneText, ReadsExactly, TermMeans, TokensAreWritten};
+ghost use Rattle.ck_text.specs.Laws.{FormulaMeans, FormulaReadsBack, FormulaTextIs, FormulaTextMeans, OneText, PrintedScans, ReadsExactly, SortedFormulaHasText, SortedTermHasText, TermMeans, TermReadsBack, TermTextIs, TermTextMeans, TokensAreWritten};
 
 /// The reader reads the tokens of every text of the asked form, and no others, and where it stops no text
 /// goes on.
@@ -22,4 +22,25 @@ pub fn means_by_names()
 /// The tokens of bytes can be written, except where a byte begins no token or a number is too large.
 pub fn tokens_are_written()
     ensures { TokensAreWritten }
+{}
+
+/// The printed bytes of a text have just its tokens.
+pub fn printed_scans()
+    ensures { PrintedScans }
+{}
+
+/// The text of a tree is one of the form, and it means the tree. Well-sorted trees have texts.
+pub fn trees_have_texts()
+    ensures sorted_term { SortedTermHasText }
+    ensures sorted_formula { SortedFormulaHasText }
+    ensures term { TermTextIs }
+    ensures formula { FormulaTextIs }
+    ensures term_meaning { TermTextMeans }
+    ensures formula_meaning { FormulaTextMeans }
+{}
+
+/// The printed bytes of a tree are read as a text that means the tree.
+pub fn reads_back()
+    ensures term { TermReadsBack }
+    ensures formula { FormulaReadsBack }
 {}
