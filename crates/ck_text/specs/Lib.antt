@@ -2,3 +2,5 @@ pub mod Tokens
 pub mod Texts
 pub mod Machine
 pub mod Laws
+pub mod Reading
+pub mod Items
