@@ -6,3 +6,5 @@ pub mod Completing
 pub mod Rereading
 pub mod Exactness
 pub mod Meanings
+pub mod Depths
+pub mod Unknowns

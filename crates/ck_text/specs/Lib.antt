@@ -4,3 +4,4 @@ pub mod Machine
 pub mod Laws
 pub mod Reading
 pub mod Items
+pub mod ReadingLaws
