@@ -8,3 +8,4 @@ pub mod Exactness
 pub mod Meanings
 pub mod Depths
 pub mod Unknowns
+pub mod Shown
