@@ -9,3 +9,4 @@ pub mod Meanings
 pub mod Depths
 pub mod Unknowns
 pub mod Shown
+pub mod Kept
