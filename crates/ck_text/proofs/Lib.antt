@@ -10,3 +10,4 @@ pub mod Depths
 pub mod Unknowns
 pub mod Shown
 pub mod Kept
+pub mod Following
