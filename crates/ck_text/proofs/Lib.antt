@@ -11,3 +11,4 @@ pub mod Unknowns
 pub mod Shown
 pub mod Kept
 pub mod Following
+pub mod Outcomes
