@@ -1,10 +1,10 @@
 -- What the reader over items answers is what reading comes to.
-use Rattle.std.proofs.Common.{◌≡◌, ◌↔◌, ℕ, zero, suc, ◌+◌, ◌-◌, ◌≤◌, ◌<◌, min, Bool, true, false, List, [], ◌∷◌, ◌++◌, length, take, drop, refl, sym, subst, ap, ◌∙◌, arith, append_assoc, append-nil, Option, Some, None, Ok, Err, nat_le}
+use Rattle.std.proofs.Common.{◌≡◌, ◌↔◌, ⊎_elim, ℕ, zero, suc, ◌+◌, ◌-◌, ◌≤◌, ◌<◌, min, Bool, true, false, List, [], ◌∷◌, ◌++◌, length, take, drop, refl, sym, subst, ap, ◌∙◌, arith, append_assoc, append-nil, Option, Some, None, Ok, Err, nat_le}
 use Rattle.std.specs.Prelude.{is_none}
 use Rattle.std.specs.declared.result.Result.{Result}
 use Rattle.std.specs.Option.{option_map, is_some}
 use Rattle.std.specs.List.{list_all}
-use Rattle.std.proofs.lemmas.Bool.{le-leb, lt-leb}
+use Rattle.std.proofs.lemmas.Bool.{le-leb, lt-leb, cases_lt}
 use Rattle.std.proofs.lemmas.List.{length-append, length-drop, take-append-drop}
 use Rattle.std.proofs.Math.Seq.{take-append_seam}
 use Rattle.formulas.specs.Tree.{FormulaTree}
@@ -177,3 +177,39 @@ module _ (limit most : ℕ) (asked : Bool) (scope : Scope) (bytes : List ℕ) wh
     by [] e s = s.1 a w.0 (w.1 ∙ sym (take-append-drop k (tokens_of bytes)) ∙ ap (λ x. take k (tokens_of bytes) ++ x) e ∙ append-nil (take k (tokens_of bytes)))
     by (t ∷ rest) e s =
         s.1 a rest w.0 (w.1 ∙ sym (take-append-drop k (tokens_of bytes)) ∙ ap (λ x. take k (tokens_of bytes) ++ x) e ∙ sym (append_assoc (take k (tokens_of bytes)) (t ∷ []) rest))
+
+  same_column : (k l : ℕ) → StopsAt limit asked (take k (tokens_of bytes)) (drop k (tokens_of bytes)) → StopsAt limit asked (take l (tokens_of bytes)) (drop l (tokens_of bytes)) → column_at bytes k ≡ column_at bytes l
+  same_column k l s t =
+      ⊎_elim (λ (h : k < l). same_end k l h (no_more k l h s (begins_of (take l (tokens_of bytes)) (drop l (tokens_of bytes)) t)))
+      (λ (h : l ≤ k). ⊎_elim (λ (i : l < k). sym (same_end l k i (no_more l k i t (begins_of (take k (tokens_of bytes)) (drop k (tokens_of bytes)) s))))
+        (λ (i : k ≤ l). let same : k ≡ l = omega (arith, h, i) in ap (column_at bytes) same) (cases_lt l k)) (cases_lt k l)
+
+  -- # Both ways
+
+  of_small : (a : Text) → IsWritten limit asked bytes a → text_levels asked a ≤ most → (o : Option ℕ) → unknown_at 0 scope a ≡ o → IsOutcome limit most asked scope bytes answer
+  of_small a w h (Some k) e = subst (λ x. IsOutcome limit most asked scope bytes x) (sym (name_answer a k w h e)) (a, w, h, k, e, refl)
+  of_small a w h None e =
+      let t = is_there (tree_of asked scope a) (means_known limit asked scope a w.0 ∙ ap is_none e) in
+      subst (λ x. IsOutcome limit most asked scope bytes x) (sym (tree_answer a t.0 w h t.1)) (a, w, h, t.1)
+
+  answers : (r : Result Text (List Token)) → texts.read limit asked (tokens_of bytes) ≡ r → IsOutcome limit most asked scope bytes answer
+  answers (Ok a) e =
+      let w : IsWritten limit asked bytes a = (exactly limit asked).0 (tokens_of bytes) a e in
+      ⊎_elim (λ (h : most < text_levels asked a). subst (λ x. IsOutcome limit most asked scope bytes x) (sym (deep_answer a w h)) (a, w, h, refl))
+      (λ (h : text_levels asked a ≤ most). of_small a w h (unknown_at 0 scope a) refl) (cases_lt most (text_levels asked a))
+  answers (Err rest) e = let s = stops rest e in subst (λ x. IsOutcome limit most asked scope bytes x) (sym s.is) (s.k, s.stands, refl)
+
+  syntax_answer : (k : ℕ) → StopsAt limit asked (take k (tokens_of bytes)) (drop k (tokens_of bytes)) → (r : Result Text (List Token)) → texts.read limit asked (tokens_of bytes) ≡ r → answer ≡ Err (by_syntax (column_at bytes k))
+  syntax_answer k s (Ok a) e = absurd (no_text a k ((exactly limit asked).0 (tokens_of bytes) a e) s)
+  syntax_answer k s (Err rest) e = let t = stops rest e in t.is ∙ ap (λ c. Err (by_syntax c)) (same_column t.k k t.stands s)
+
+  only_answer : (outcome : Result Tree Fault) → IsOutcome limit most asked scope bytes outcome → answer ≡ outcome
+  only_answer (Ok tree) o = tree_answer o.0 tree o.1 o.2 o.3
+  only_answer (Err (by_syntax column)) o = syntax_answer o.0 o.1 (texts.read limit asked (tokens_of bytes)) refl ∙ ap (λ c. Err (by_syntax c)) (sym o.2)
+  only_answer (Err (by_depth column)) o = deep_answer o.0 o.1 o.2 ∙ ap (λ c. Err (by_depth c)) (sym o.3)
+  only_answer (Err (by_name column)) o = name_answer o.0 o.3 o.1 o.2 o.4 ∙ ap (λ c. Err (by_name c)) (sym o.5)
+
+pub reads_outcomes : ReadsOutcomes
+reads_outcomes limit most asked scope bytes outcome =
+    ((λ e. subst (λ x. IsOutcome limit most asked scope bytes x) e (answers limit most asked scope bytes (texts.read limit asked (tokens_of bytes)) refl)),
+    (λ o. only_answer limit most asked scope bytes outcome o))

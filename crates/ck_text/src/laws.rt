@@ -1,6 +1,7 @@
 //! What holds of the reader of terms and formulas: laws that are proved.
 
 ghost use Rattle.ck_text.specs.Laws.{FormulaMeans, OneText, ReadsExactly, TermMeans, TokensAreWritten};
+ghost use Rattle.ck_text.specs.ReadingLaws.{FormulaLevels, ReadsOutcomes, TermLevels, UnknownNames};
 
 /// The reader reads the tokens of every text of the asked form, and no others, and where it stops no text
 /// goes on.
@@ -22,4 +23,20 @@ pub fn means_by_names()
 /// The tokens of bytes can be written, except where a byte begins no token or a number is too large.
 pub fn tokens_are_written()
     ensures { TokensAreWritten }
+{}
+
+/// The levels of a text are the depth of the tree that it means.
+pub fn levels_are_depths()
+    ensures term { TermLevels }
+    ensures formula { FormulaLevels }
+{}
+
+/// There is a first name that means nothing exactly where not each name means something.
+pub fn unknown_names()
+    ensures { UnknownNames }
+{}
+
+/// The reader over items answers what reading a text comes to, and reading comes to nothing else.
+pub fn reads_outcomes()
+    ensures { ReadsOutcomes }
 {}
