@@ -1,5 +1,5 @@
 -- The levels of a text are the depth of the tree that it means.
-use Rattle.std.proofs.Common.{◌≡◌, ℕ, ◌+◌, ◌-◌, max, List, length, arith, refl, sym, subst, ap, ap₂, ◌∙◌, Option, Some, None}
+use Rattle.std.proofs.Common.{◌≡◌, ℕ, ◌+◌, ◌-◌, max, List, length, arith, refl, subst, ap, ap₂, ◌∙◌, Option, Some, None}
 use Rattle.std.specs.Option.{option_map}
 use Rattle.ck_base.specs.Names.{number_of}
 use Rattle.sorted_terms.specs.Tree.{TermTree}

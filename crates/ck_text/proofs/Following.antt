@@ -1,22 +1,20 @@
 -- The reader over items follows the reader over texts, to what is kept of the text, or to the token where it stops.
 use Rattle.std.proofs.Common.{◌≡◌, ℕ, zero, suc, ◌+◌, ◌≤◌, Bool, true, false, List, [], ◌∷◌, ◌++◌, length, drop, refl, sym, subst, ap, ap₂, ◌∙◌, arith, Option, Some, None, Ok, Err, nat_le, nat_lt, ◌&&◌, if◌then◌else◌}
-use Rattle.std.specs.declared.result.Result.{Result}
 use Rattle.std.specs.Option.{option_map, is_some}
 use Rattle.std.proofs.lemmas.Bool.{cond_both}
 use Rattle.std.proofs.lemmas.List.{length-append}
-use Rattle.ck_text.specs.declared.token.Sign.{Sign}
 use Rattle.ck_text.specs.declared.token.Sign.TheVariants as sign
 use Rattle.ck_text.specs.declared.token.Prefix.TheVariants as prefixes
 use Rattle.ck_text.specs.declared.token.Mark.TheVariants as marks
 use Rattle.ck_text.specs.Tokens.{Token, Placed, bare}
 use Rattle.ck_text.specs.Tokens as token
-use Rattle.ck_text.specs.Texts.{Lead, prefix, binder, Text, truth, falsity, name, number, led, joined, closed, tokens, lead_tokens, level, left_want, right_want, lead_level, rank, on_terms, lead_on_terms, is_term, suits, opens, Scope, first_of, meaning_of}
+use Rattle.ck_text.specs.Texts.{Lead, prefix, binder, Text, truth, falsity, name, number, led, joined, closed, tokens, lead_tokens, level, right_want, lead_level, lead_on_terms, suits, Scope, first_of, meaning_of}
 use Rattle.ck_text.specs.Machine as texts
-use Rattle.ck_text.specs.Reading.{scope_after, unknown_at, left_of}
-use Rattle.ck_text.specs.Items.{Item, State, scope_at, step, unknown_word, unknown_here, finished, or_fault, after, run}
+use Rattle.ck_text.specs.Reading.{unknown_at, left_of}
+use Rattle.ck_text.specs.Items.{unknown_word, unknown_here, finished, or_fault, after, run}
 use Rattle.ck_text.proofs.Stacks.{Lasts, front, before}
 use Rattle.ck_text.proofs.Keeping.{guard_passed, step_keeps}
-use Rattle.ck_text.proofs.Shown.{item_of, scope_under, shown, shown_state, scope_shown, step_shown, finished_shown}
+use Rattle.ck_text.proofs.Shown.{item_of, scope_under, shown_state, scope_shown, step_shown, finished_shown}
 
 first_none : {A : Type 0} (o : Option A) → first_of o None ≡ o
 first_none (Some a) = refl
@@ -96,7 +94,7 @@ module _ (most : ℕ) (asked : Bool) (scope : Scope) where
   reduced_missed least (texts.operand o b ∷ stack) a =
       cond_both (nat_le least (right_want o)) (texts.reduced least stack (joined o b a)) (texts.operand o b ∷ stack, a) (λ (x : List texts.Frame × Text). missed_top x ≡ missed_top (texts.operand o b ∷ stack, a))
       (λ t. reduced_missed least stack (joined o b a) ∙ sym (first_assoc (missed stack) (unknown_at (counted stack) (scope_under most asked scope stack) b)
-        (unknown_at (suc (counted stack + length (tokens b))) (scope_under most asked scope stack) a))) (λ t. refl)
+      (unknown_at (suc (counted stack + length (tokens b))) (scope_under most asked scope stack) a))) (λ t. refl)
   reduced_missed least (texts.parenthesis ∷ stack) a = refl
 
   abbrev Misses : texts.State → Token → texts.State → Type 0
@@ -186,7 +184,7 @@ module _ (most : ℕ) (asked : Bool) (scope : Scope) where
       by None f e = absurd (cc)
     run_kept all (p ∷ placed) st unknown c h d u e = by (λ next unknown. run_kept all placed next unknown c) (texts.step limit asked st p.token) refl e where
       by : ((next : texts.State) (unknown : Option ℕ) → Lasts limit asked next → drop (counted_state next) all ≡ placed → unknown ≡ option_map (place all) (missed_state next)
-            → texts.run limit asked (bare placed) next ≡ Ok c → run limit most asked scope placed (shown_state most asked scope next) unknown ≡ Ok (item_of most scope c, option_map (place all) (unknown_at 0 scope c)))
+          → texts.run limit asked (bare placed) next ≡ Ok c → run limit most asked scope placed (shown_state most asked scope next) unknown ≡ Ok (item_of most scope c, option_map (place all) (unknown_at 0 scope c)))
           → (o : Option texts.State) → texts.step limit asked st p.token ≡ o → texts.after o (p.token ∷ bare placed) (λ next. texts.run limit asked (bare placed) next) ≡ Ok c
           → run limit most asked scope (p ∷ placed) (shown_state most asked scope st) unknown ≡ Ok (item_of most scope c, option_map (place all) (unknown_at 0 scope c))
       by ih (Some next) t e =
@@ -194,9 +192,9 @@ module _ (most : ℕ) (asked : Bool) (scope : Scope) where
           let more : counted_state next ≡ suc (counted_state st) = one_more st next p.token (k.1 []) in
           let now : Option ℕ = first_of unknown (unknown_here scope (shown_state most asked scope st) p.token p.left) in
           let here : now ≡ option_map (place all) (missed_state next) =
-              ap₂ first_of u (sym (here_place (place all) st p.token (counted_state st) p.left (ap left_of d)))
-              ∙ sym (map_first (place all) (missed_state st) (unknown_now st p.token (counted_state st)))
-              ∙ ap (option_map (place all)) (sym (step_missed limit st p.token next t)) in
+          ap₂ first_of u (sym (here_place (place all) st p.token (counted_state st) p.left (ap left_of d)))
+          ∙ sym (map_first (place all) (missed_state st) (unknown_now st p.token (counted_state st)))
+          ∙ ap (option_map (place all)) (sym (step_missed limit st p.token next t)) in
           ap (λ o. after o p.left (λ next. run limit most asked scope placed next now)) (step_shown most asked scope limit st p.token ∙ ap (option_map (shown_state most asked scope)) t)
           ∙ ih next now k.0 (ap (λ n. drop n all) more ∙ drop_next (counted_state st) all p placed d) here e
       by ih None t e = absurd (cc)
@@ -210,14 +208,21 @@ module _ (most : ℕ) (asked : Bool) (scope : Scope) where
       by None f e = (0, omega arith, cc, ap (λ o. or_fault o unknown) (finished_shown most asked scope st ∙ ap (option_map (item_of most scope)) f))
     run_stops (p ∷ placed) st unknown rest e = by (λ next unknown. run_stops placed next unknown rest) (texts.step limit asked st p.token) refl e where
       by : ((next : texts.State) (unknown : Option ℕ) → texts.run limit asked (bare placed) next ≡ Err rest
-            → (k : ℕ) × (k ≤ length placed) × (rest ≡ drop k (bare placed)) × (run limit most asked scope placed (shown_state most asked scope next) unknown ≡ Err (left_of (drop k placed))))
+          → (k : ℕ) × (k ≤ length placed) × (rest ≡ drop k (bare placed)) × (run limit most asked scope placed (shown_state most asked scope next) unknown ≡ Err (left_of (drop k placed))))
           → (o : Option texts.State) → texts.step limit asked st p.token ≡ o → texts.after o (p.token ∷ bare placed) (λ next. texts.run limit asked (bare placed) next) ≡ Err rest
           → (k : ℕ) × (k ≤ length (p ∷ placed)) × (rest ≡ drop k (bare (p ∷ placed))) × (run limit most asked scope (p ∷ placed) (shown_state most asked scope st) unknown ≡ Err (left_of (drop k (p ∷ placed))))
       by ih (Some next) t e =
           let now : Option ℕ = first_of unknown (unknown_here scope (shown_state most asked scope st) p.token p.left) in
-          let s = ih next now e in
-          (suc s.0, omega (arith, s.1), s.2,
-            ap (λ o. after o p.left (λ next. run limit most asked scope placed next now)) (step_shown most asked scope limit st p.token ∙ ap (option_map (shown_state most asked scope)) t) ∙ s.3)
-      by ih None t e =
-          (0, omega arith, cc, ap (λ o. after o p.left (λ next. run limit most asked scope placed next (first_of unknown (unknown_here scope (shown_state most asked scope st) p.token p.left))))
-            (step_shown most asked scope limit st p.token ∙ ap (option_map (shown_state most asked scope)) t))
+          let s = ih next now e in (
+            suc s.0,
+            omega (arith, s.1),
+            s.2,
+            ap (λ o. after o p.left (λ next. run limit most asked scope placed next now)) (step_shown most asked scope limit st p.token ∙ ap (option_map (shown_state most asked scope)) t) ∙ s.3,
+          )
+      by ih None t e = (
+        0,
+        omega arith,
+        cc,
+        ap (λ o. after o p.left (λ next. run limit most asked scope placed next (first_of unknown (unknown_here scope (shown_state most asked scope st) p.token p.left))))
+            (step_shown most asked scope limit st p.token ∙ ap (option_map (shown_state most asked scope)) t),
+      )

@@ -1,5 +1,5 @@
 -- What is kept of a text: the levels that it has, counted to one more than the most, and where it has no more, the tree that it means.
-use Rattle.std.proofs.Common.{◌≡◌, ℕ, suc, ◌+◌, ◌≤◌, max, min, Bool, true, false, List, refl, sym, subst, ap, ap₂, ◌∙◌, arith, Option, Some, None, nat_le, ℤ, pos, neg_ℤ, if◌then◌else◌}
+use Rattle.std.proofs.Common.{◌≡◌, ℕ, suc, ◌+◌, ◌≤◌, max, min, true, refl, sym, subst, ap, ap₂, ◌∙◌, arith, Option, Some, None, nat_le, ℤ, pos, neg_ℤ, if◌then◌else◌}
 use Rattle.std.proofs.lemmas.Bool.{cond_both, leb-true, leb-false, le-leb}
 use Rattle.std.specs.Option.{option_map}
 use Rattle.sorted_terms.specs.Tree.{TermTree, UnarySign, BinarySign}
@@ -8,7 +8,7 @@ use Rattle.formulas.specs.Tree.{FormulaTree, Connective}
 use Rattle.formulas.specs.Tree as formula
 use Rattle.ck_text.specs.declared.token.Sign.{Sign}
 use Rattle.ck_text.specs.declared.token.Prefix.TheVariants as prefixes
-use Rattle.ck_text.specs.Texts.{Joint, formulas, terms, joint, joins_terms, Lead, prefix, binder, Text, truth, falsity, name, number, led, joined, closed, level, on_terms, is_term, suits, opens, Fits, Scope, under, meaning_of, both_of, negated, joined_term, term_of, quantifier_of, sort_or_int, joined_formula, formula_of}
+use Rattle.ck_text.specs.Texts.{Joint, formulas, terms, joint, joins_terms, prefix, binder, Text, truth, falsity, name, number, led, joined, closed, level, on_terms, is_term, suits, opens, Fits, Scope, under, meaning_of, both_of, negated, joined_term, term_of, quantifier_of, sort_or_int, joined_formula, formula_of}
 use Rattle.ck_text.specs.Reading.{negated_levels, term_levels, joined_levels, formula_levels, Tree, of_term, of_formula}
 use Rattle.ck_text.specs.Items.{Item, is_term_tree, grown, as_term, as_formula, formula_height, height, term_item, formula_item, name_item, negated_item, joint_item}
 use Rattle.ck_text.proofs.Shown.{item_of, form_shown}
@@ -190,7 +190,7 @@ module _ (most : ℕ) where
         by : (j : Joint) → joint o ≡ j → FormulaKept (formula_levels a) (item_of most scope a) (formula_of scope a) → FormulaKept (formula_levels b) (item_of most scope b) (formula_of scope b)
             → (on_terms o ≡ true → FormulaKept (1 + term_levels (joined o a b)) (joint_item most (joint o) (level o) (item_of most scope a) (item_of most scope b)) (option_map formula.holds (term_of scope (joined o a b))))
             → FormulaKept (joined_levels j (formula_levels a) (formula_levels b) (term_levels (joined o a b))) (joint_item most j (level o) (item_of most scope a) (item_of most scope b))
-                (joined_formula j (formula_of scope a) (formula_of scope b) (term_of scope (joined o a b)))
+            (joined_formula j (formula_of scope a) (formula_of scope b) (term_of scope (joined o a b)))
         by (formulas c) e f g k = both_kept c (level o) (formula_levels a) (formula_levels b) (item_of most scope a) (item_of most scope b) (formula_of scope a) (formula_of scope b) f g
         by (terms s) e f g k =
             subst (λ j. FormulaKept (1 + term_levels (joined o a b)) (joint_item most j (level o) (item_of most scope a) (item_of most scope b)) (option_map formula.holds (term_of scope (joined o a b)))) e (k (ap joins_terms e))

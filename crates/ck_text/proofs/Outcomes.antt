@@ -1,21 +1,20 @@
 -- What the reader over items answers is what reading comes to.
-use Rattle.std.proofs.Common.{◌≡◌, ◌↔◌, ⊎_elim, ℕ, zero, suc, ◌+◌, ◌-◌, ◌≤◌, ◌<◌, min, Bool, true, false, List, [], ◌∷◌, ◌++◌, length, take, drop, refl, sym, subst, ap, ◌∙◌, arith, append_assoc, append-nil, Option, Some, None, Ok, Err, nat_le}
+use Rattle.std.proofs.Common.{◌≡◌, ⊎_elim, ℕ, zero, suc, ◌≤◌, ◌<◌, min, Bool, true, false, List, [], ◌∷◌, ◌++◌, length, take, drop, refl, sym, subst, ap, ◌∙◌, arith, append_assoc, append-nil, Option, Some, None, Ok, Err}
 use Rattle.std.specs.Prelude.{is_none}
 use Rattle.std.specs.declared.result.Result.{Result}
 use Rattle.std.specs.Option.{option_map, is_some}
-use Rattle.std.specs.List.{list_all}
 use Rattle.std.proofs.lemmas.Bool.{le-leb, lt-leb, cases_lt}
 use Rattle.std.proofs.lemmas.List.{length-append, length-drop, take-append-drop}
 use Rattle.std.proofs.Math.Seq.{take-append_seam}
 use Rattle.formulas.specs.Tree.{FormulaTree}
 use Rattle.sorted_terms.specs.Tree.{TermTree}
 use Rattle.ck_text.specs.Tokens.{Token, Placed, scan, bare}
-use Rattle.ck_text.specs.Texts.{Text, tokens, is_term, IsText, Scope, term_of, formula_of, names_in, is_known}
+use Rattle.ck_text.specs.Texts.{Text, IsText, Scope, term_of, formula_of}
 use Rattle.ck_text.specs.Machine as texts
-use Rattle.ck_text.specs.Laws.{Begins, BeginsNone, StopsAt}
-use Rattle.ck_text.specs.Reading.{term_levels, formula_levels, text_levels, Tree, of_term, of_formula, tree_of, unknown_at, left_of, column_of, column_at, tokens_of, IsWritten, Means, IsSyntaxFault, IsDepthFault, IsNameFault, Fault, by_syntax, by_depth, by_name, IsOutcome}
-use Rattle.ck_text.specs.ReadingLaws.{ReadsOutcomes}
-use Rattle.ck_text.specs.Items.{Item, as_term, as_formula, height, levels_asked, tree_asked, or_unknown, answered, run, read_bytes, wanting}
+use Rattle.ck_text.specs.Laws.{Begins, StopsAt}
+use Rattle.ck_text.specs.Reading.{text_levels, Tree, of_term, of_formula, tree_of, unknown_at, left_of, column_of, column_at, tokens_of, IsWritten, Fault, by_syntax, by_depth, by_name, IsOutcome}
+use Rattle.ck_text.specs.ReadingLaws.{OneOutcome, ReadsOutcomes}
+use Rattle.ck_text.specs.Items.{as_term, as_formula, levels_asked, tree_asked, or_unknown, answered, read_bytes}
 use Rattle.ck_text.proofs.Exactness.{exactly}
 use Rattle.ck_text.proofs.Meanings.{term_means, formula_means}
 use Rattle.ck_text.proofs.Unknowns.{unknown_names}
@@ -148,7 +147,7 @@ module _ (limit most : ℕ) (asked : Bool) (scope : Scope) (bytes : List ℕ) wh
       record {
         k = r.0;
         stands = subst (λ x. StopsAt limit asked (take r.0 (tokens_of bytes)) x) r.2
-          (subst (λ x. StopsAt limit asked x rest) (front_is r.0 (tokens_of bytes) s.0 rest most_k s.1 r.2) s.2);
+            (subst (λ x. StopsAt limit asked x rest) (front_is r.0 (tokens_of bytes) s.0 rest most_k s.1 r.2) s.2);
         is = ap (answered most asked bytes) r.3;
       }
 
@@ -164,7 +163,7 @@ module _ (limit most : ℕ) (asked : Bool) (scope : Scope) (bytes : List ℕ) wh
     by (t ∷ rest) e s =
         let m = begins_with k l (tokens_of bytes) t rest h e in
         absurd (s.1 b.0 (m.0 ++ b.1) b.2 (b.3 ∙ ap (λ x. x ++ b.1) m.1 ∙ append_assoc (take k (tokens_of bytes)) (t ∷ m.0) b.1
-          ∙ sym (append_assoc (take k (tokens_of bytes)) (t ∷ []) (m.0 ++ b.1))))
+        ∙ sym (append_assoc (take k (tokens_of bytes)) (t ∷ []) (m.0 ++ b.1))))
 
   same_end : (k l : ℕ) → k < l → drop k (tokens_of bytes) ≡ [] → column_at bytes k ≡ column_at bytes l
   same_end k l h e =
@@ -182,7 +181,7 @@ module _ (limit most : ℕ) (asked : Bool) (scope : Scope) (bytes : List ℕ) wh
   same_column k l s t =
       ⊎_elim (λ (h : k < l). same_end k l h (no_more k l h s (begins_of (take l (tokens_of bytes)) (drop l (tokens_of bytes)) t)))
       (λ (h : l ≤ k). ⊎_elim (λ (i : l < k). sym (same_end l k i (no_more l k i t (begins_of (take k (tokens_of bytes)) (drop k (tokens_of bytes)) s))))
-        (λ (i : k ≤ l). let same : k ≡ l = omega (arith, h, i) in ap (column_at bytes) same) (cases_lt l k)) (cases_lt k l)
+      (λ (i : k ≤ l). let same : k ≡ l = omega (arith, h, i) in ap (column_at bytes) same) (cases_lt l k)) (cases_lt k l)
 
   -- # Both ways
 
@@ -210,6 +209,14 @@ module _ (limit most : ℕ) (asked : Bool) (scope : Scope) (bytes : List ℕ) wh
   only_answer (Err (by_name column)) o = name_answer o.0 o.3 o.1 o.2 o.4 ∙ ap (λ c. Err (by_name c)) (sym o.5)
 
 pub reads_outcomes : ReadsOutcomes
-reads_outcomes limit most asked scope bytes outcome =
-    ((λ e. subst (λ x. IsOutcome limit most asked scope bytes x) e (answers limit most asked scope bytes (texts.read limit asked (tokens_of bytes)) refl)),
-    (λ o. only_answer limit most asked scope bytes outcome o))
+reads_outcomes limit most asked scope bytes outcome = (
+  (λ e. subst (λ x. IsOutcome limit most asked scope bytes x) e (answers limit most asked scope bytes (texts.read limit asked (tokens_of bytes)) refl)),
+  (λ o. only_answer limit most asked scope bytes outcome o),
+)
+
+pub one_outcome : OneOutcome
+one_outcome limit most asked scope bytes = (
+  read_bytes limit most asked scope bytes,
+  answers limit most asked scope bytes (texts.read limit asked (tokens_of bytes)) refl,
+  (λ other o. sym (only_answer limit most asked scope bytes other o)),
+)

@@ -1,5 +1,5 @@
 -- Each step of the reader over items is the step of the reader over texts.
-use Rattle.std.proofs.Common.{◌≡◌, ℕ, suc, ◌+◌, Bool, true, false, ◌&&◌, List, [], ◌∷◌, refl, sym, ap, ap₂, ◌∙◌, Option, Some, None, nat_le, nat_lt, ℤ, if◌then◌else◌}
+use Rattle.std.proofs.Common.{◌≡◌, ℕ, suc, ◌+◌, Bool, true, false, ◌&&◌, List, [], ◌∷◌, refl, ap, ◌∙◌, Option, Some, None, nat_le, nat_lt, ℤ, if◌then◌else◌}
 use Rattle.std.specs.Option.{option_map}
 use Rattle.sorted_terms.specs.Tree.{TermTree}
 use Rattle.sorted_terms.specs.Tree as term
@@ -9,7 +9,7 @@ use Rattle.ck_text.specs.declared.token.Prefix.TheVariants as prefixes
 use Rattle.ck_text.specs.declared.token.Mark.TheVariants as marks
 use Rattle.ck_text.specs.Tokens.{Token}
 use Rattle.ck_text.specs.Tokens as token
-use Rattle.ck_text.specs.Texts.{Joint, formulas, terms, joint, joins_terms, Lead, prefix, binder, Text, truth, falsity, name, number, led, joined, closed, level, left_want, right_want, lead_level, rank, on_terms, lead_on_terms, is_term, suits, opens, Scope, meaning_of}
+use Rattle.ck_text.specs.Texts.{Joint, formulas, terms, joint, joins_terms, Lead, prefix, binder, Text, truth, falsity, name, number, led, joined, closed, level, left_want, right_want, lead_level, rank, on_terms, lead_on_terms, is_term, suits, opens, Scope, under, meaning_of}
 use Rattle.ck_text.specs.Machine as texts
 use Rattle.ck_text.specs.Reading.{scope_after}
 use Rattle.ck_text.specs.Items.{Item, is_term_tree, leaf_item, falsity_item, number_item, name_item, negated_item, led_item, joint_item, joined_item, closed_item, Frame, State, wanting, having, naming, named, sorting, sorted, want, asks, opened, with_lead, with_operand, with_parenthesis, scope_at, reduced, guarded, leads, joins, closes, step, alone, finished}
@@ -123,7 +123,8 @@ module _ (most : ℕ) (asked : Bool) (scope : Scope) where
 
   pub scope_shown : (stack : List texts.Frame) → scope_at scope (shown stack) ≡ scope_under stack
   scope_shown [] = refl
-  scope_shown (texts.leading l ∷ stack) = ap (scope_after l) (scope_shown stack)
+  scope_shown (texts.leading (prefix p) ∷ stack) = scope_shown stack
+  scope_shown (texts.leading (binder q bytes s) ∷ stack) = ap (under bytes) (scope_shown stack)
   scope_shown (texts.operand o a ∷ stack) = scope_shown stack
   scope_shown (texts.parenthesis ∷ stack) = scope_shown stack
 

@@ -1,10 +1,9 @@
 -- No name is the first that means nothing exactly where each name of a text means something.
-use Rattle.std.proofs.Common.{◌≡◌, ℕ, suc, ◌+◌, Bool, true, false, ◌&&◌, ◌++◌, length, refl, sym, ap₂, ◌∙◌, Option, Some, None, if◌then◌else◌}
+use Rattle.std.proofs.Common.{◌≡◌, ℕ, suc, ◌+◌, Bool, true, false, ◌&&◌, length, refl, sym, ap₂, ◌∙◌, Option, Some, None, if◌then◌else◌}
 use Rattle.std.specs.Prelude.{is_none}
 use Rattle.std.specs.Option.{is_some}
-use Rattle.std.specs.List.{list_all}
 use Rattle.std.proofs.lemmas.List.Folds.{list_all-append}
-use Rattle.ck_text.specs.Texts.{Lead, prefix, binder, Text, truth, falsity, name, number, led, joined, closed, tokens, lead_tokens, Scope, under, first_of, meaning_of, names_in, is_known}
+use Rattle.ck_text.specs.Texts.{prefix, binder, truth, falsity, name, number, led, joined, closed, tokens, lead_tokens, under, first_of, meaning_of, names_in, is_known}
 use Rattle.ck_text.specs.Reading.{unknown_at}
 use Rattle.ck_text.specs.ReadingLaws.{UnknownNames}
 

@@ -17,7 +17,7 @@ use Rattle.ck_text.specs.declared.token.Mark.TheVariants as marks
 use Rattle.ck_text.specs.Tokens.{Token, Placed, scan}
 use Rattle.ck_text.specs.Tokens as token
 use Rattle.ck_text.specs.Texts.{Joint, formulas, terms, joint, Lead, prefix, binder, level, left_want, right_want, lead_level, on_terms, lead_on_terms, suits, opens, Scope, first_of, meaning_of, quantifier_of, sort_or_int}
-use Rattle.ck_text.specs.Reading.{Tree, of_term, of_formula, scope_after, left_of, column_of, Fault, by_syntax, by_depth, by_name}
+use Rattle.ck_text.specs.Reading.{Tree, of_term, of_formula, left_of, column_of, Fault, by_syntax, by_depth, by_name}
 
 -- # Items
 
@@ -145,15 +145,18 @@ with_operand o top = record { held = operand o top.1; asks = on_terms o; opened 
 abbrev pub with_parenthesis : Bool → List Frame → List Frame
 with_parenthesis asked stack = record { held = parenthesis; asks = asks asked stack; opened = suc (opened stack) } ∷ stack
 
--- the scope of the operand that is wanted
-abbrev pub held_scope : Held → Scope → Scope
-held_scope (leading l) scope = scope_after l scope
-held_scope (operand o i) scope = scope
-held_scope parenthesis scope = scope
+-- the names that the quantifiers of the stack bind, the innermost first, and then the others
+abbrev pub held_bound : Held → List (List ℕ) → List (List ℕ)
+held_bound (leading (binder q bytes s)) outer = bytes ∷ outer
+held_bound held outer = outer
 
+abbrev pub bound_by : (outer : List (List ℕ)) → List Frame → List (List ℕ)
+bound_by outer [] = outer
+bound_by outer (f ∷ stack) = held_bound f.held (bound_by outer stack)
+
+-- the scope of the operand that is wanted
 abbrev pub scope_at : Scope → List Frame → Scope
-scope_at scope [] = scope
-scope_at scope (f ∷ stack) = held_scope f.held (scope_at scope stack)
+scope_at scope stack = record { names = scope.names; variables = scope.variables; bound = bound_by scope.bound stack }
 
 -- the frame wants at least that level, and is no `(`
 abbrev pub takes : (least : ℕ) → Held → Bool

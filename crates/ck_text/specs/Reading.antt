@@ -7,7 +7,7 @@ use Rattle.sorted_terms.specs.Tree.{TermTree}
 use Rattle.formulas.specs.Tree.{FormulaTree}
 use Rattle.ck_text.specs.declared.token.Prefix.TheVariants as prefixes
 use Rattle.ck_text.specs.Tokens.{Token, Placed, scan, bare}
-use Rattle.ck_text.specs.Texts.{Joint, formulas, terms, joint, Lead, prefix, binder, Text, truth, falsity, name, number, led, joined, closed, tokens, lead_tokens, IsText, Scope, under, first_of, meaning_of, term_of, formula_of}
+use Rattle.ck_text.specs.Texts.{Joint, formulas, terms, joint, Lead, prefix, binder, Text, falsity, name, number, led, joined, closed, tokens, lead_tokens, IsText, Scope, under, first_of, meaning_of, term_of, formula_of}
 use Rattle.ck_text.specs.Laws.{StopsAt}
 
 -- # Levels

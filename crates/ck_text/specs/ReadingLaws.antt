@@ -27,3 +27,10 @@ abbrev pub ReadsOutcomes : Type 0
 ReadsOutcomes =
     (limit most : ℕ) (term : Bool) (scope : Scope) (bytes : List ℕ) (outcome : Result Tree Fault)
     → (read_bytes limit most term scope bytes ≡ outcome) ↔ IsOutcome limit most term scope bytes outcome
+
+-- reading the bytes comes to one thing, and to no other
+abbrev pub OneOutcome : Type 0
+OneOutcome =
+    (limit most : ℕ) (term : Bool) (scope : Scope) (bytes : List ℕ)
+    → (outcome : Result Tree Fault) × IsOutcome limit most term scope bytes outcome
+    × ((other : Result Tree Fault) → IsOutcome limit most term scope bytes other → other ≡ outcome)

@@ -1,7 +1,7 @@
 //! What holds of the reader of terms and formulas: laws that are proved.
 
 ghost use Rattle.ck_text.specs.Laws.{FormulaMeans, OneText, ReadsExactly, TermMeans, TokensAreWritten};
-ghost use Rattle.ck_text.specs.ReadingLaws.{FormulaLevels, ReadsOutcomes, TermLevels, UnknownNames};
+ghost use Rattle.ck_text.specs.ReadingLaws.{FormulaLevels, OneOutcome, ReadsOutcomes, TermLevels, UnknownNames};
 
 /// The reader reads the tokens of every text of the asked form, and no others, and where it stops no text
 /// goes on.
@@ -34,6 +34,11 @@ pub fn levels_are_depths()
 /// There is a first name that means nothing exactly where not each name means something.
 pub fn unknown_names()
     ensures { UnknownNames }
+{}
+
+/// Reading a text comes to one of its outcomes, and to no other.
+pub fn one_outcome()
+    ensures { OneOutcome }
 {}
 
 /// The reader over items answers what reading a text comes to, and reading comes to nothing else.
