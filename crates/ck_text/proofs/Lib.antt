@@ -12,3 +12,4 @@ pub mod Shown
 pub mod Kept
 pub mod Following
 pub mod Outcomes
+pub mod Nodes
