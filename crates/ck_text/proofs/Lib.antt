@@ -12,3 +12,10 @@ pub mod Fitting
 pub mod Naming
 pub mod Returning
 pub mod Sorted
+pub mod Depths
+pub mod Unknowns
+pub mod Shown
+pub mod Kept
+pub mod Following
+pub mod Outcomes
+pub mod Nodes

@@ -4,3 +4,6 @@ pub mod Machine
 pub mod Printing
 pub mod Printers
 pub mod Laws
+pub mod Reading
+pub mod Items
+pub mod ReadingLaws

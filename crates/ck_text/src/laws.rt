@@ -1,6 +1,7 @@
 //! What holds of the reader of terms and formulas: laws that are proved.
 
 ghost use Rattle.ck_text.specs.Laws.{FormulaMeans, FormulaReadsBack, FormulaTextIs, FormulaTextMeans, OneText, PrintedScans, ReadsExactly, SortedFormulaHasText, SortedTermHasText, TermMeans, TermReadsBack, TermTextIs, TermTextMeans, TokensAreWritten};
+ghost use Rattle.ck_text.specs.ReadingLaws.{FormulaLevels, FormulaNodes, OneOutcome, ReadsOutcomes, TermLevels, TermNodes, UnknownNames};
 
 /// The reader reads the tokens of every text of the asked form, and no others, and where it stops no text
 /// goes on.
@@ -43,4 +44,31 @@ pub fn trees_have_texts()
 pub fn reads_back()
     ensures term { TermReadsBack }
     ensures formula { FormulaReadsBack }
+{}
+
+/// The levels of a text are the depth of the tree that it means.
+pub fn levels_are_depths()
+    ensures term { TermLevels }
+    ensures formula { FormulaLevels }
+{}
+
+/// A term has no more nodes than its text has tokens, and a formula at most twice as many.
+pub fn few_nodes()
+    ensures term { TermNodes }
+    ensures formula { FormulaNodes }
+{}
+
+/// There is a first name that means nothing exactly where not each name means something.
+pub fn unknown_names()
+    ensures { UnknownNames }
+{}
+
+/// Reading a text comes to one of its outcomes, and to no other.
+pub fn one_outcome()
+    ensures { OneOutcome }
+{}
+
+/// The reader over items answers what reading a text comes to, and reading comes to nothing else.
+pub fn reads_outcomes()
+    ensures { ReadsOutcomes }
 {}

@@ -2,8 +2,10 @@
 //!
 //! It stands on `formulas`. Its definitions are in `specs/`: the tokens of a text (`Tokens.antt`), written
 //! terms and formulas with the trees that they mean (`Texts.antt`), the texts of trees and their bytes
-//! (`Printing.antt`), and what is proved of the reader and of printing (`Laws.antt`). `Machine.antt` has the
-//! steps of the reader over tokens, and `Printers.antt` words for parts of the printer.
+//! (`Printing.antt`), what reading bytes comes to, a tree or a fault and its column (`Reading.antt`), and
+//! what is proved of all of them (`Laws.antt`, `ReadingLaws.antt`). `Machine.antt` has the steps of the
+//! reader over tokens, `Items.antt` the same steps over what the reader keeps of each text, and
+//! `Printers.antt` words for parts of the printer.
 #![tactic(auto)]
 
 pub mod laws;
