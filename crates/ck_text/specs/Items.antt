@@ -78,11 +78,14 @@ abbrev pub negated_item : (most : ℕ) → Option ℤ → Item → Item
 negated_item most (Some n) i = record { rank = 10; negative = None; levels = 1; tree = of_term (term.integer n) }
 negated_item most None i = term_item most 10 (grown most i.levels) (term.unary term.minus (as_term i.tree))
 
+abbrev pub quantified_item : (most : ℕ) → Quantifier → Option Sort → Item → Item
+quantified_item most q s i = formula_item most 0 (grown most (height most i)) (formula.quantified (quantifier_of q) (sort_or_int s) (as_formula i.tree))
+
 abbrev pub led_item : (most : ℕ) → Lead → Item → Item
 led_item most (prefix prefixes.Tilde) i = formula_item most 3 (grown most (height most i)) (formula.not_so (as_formula i.tree))
 led_item most (prefix prefixes.Not) i = term_item most 6 (grown most i.levels) (term.unary term.denial (as_term i.tree))
 led_item most (prefix prefixes.Minus) i = negated_item most i.negative i
-led_item most (binder q bytes s) i = formula_item most 0 (grown most (height most i)) (formula.quantified (quantifier_of q) (sort_or_int s) (as_formula i.tree))
+led_item most (binder q bytes s) i = quantified_item most q s i
 
 abbrev pub joint_item : (most : ℕ) → Joint → (rank : ℕ) → Item → Item → Item
 joint_item most (formulas c) rank i j = formula_item most rank (grown most (max (height most i) (height most j))) (formula.joined c (as_formula i.tree) (as_formula j.tree))

@@ -5,3 +5,4 @@ pub mod Laws
 pub mod Reading
 pub mod Items
 pub mod ReadingLaws
+pub mod Views

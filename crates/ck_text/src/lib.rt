@@ -7,6 +7,7 @@
 //! steps over what the reader keeps of each text.
 #![tactic(auto)]
 
+pub mod items;
 pub mod laws;
 pub mod token;
 
