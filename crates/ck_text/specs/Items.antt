@@ -183,10 +183,13 @@ reduced most least (f ∷ stack) i = if takes least f.held then reduced most lea
 abbrev pub guarded : Bool → State → Option State
 guarded test state = if test then Some state else None
 
+-- a lead may stand here
+abbrev pub may_lead : (limit : ℕ) (asked : Bool) → Lead → List Frame → Bool
+may_lead limit asked l stack = nat_le (want stack) (lead_level l) && suits (asks asked stack) (lead_on_terms l) && nat_lt (opened stack) limit
+
 -- a lead goes on to a state, where it may stand
 abbrev pub leads : (limit : ℕ) (asked : Bool) → Lead → List Frame → State → Option State
-leads limit asked l stack state =
-    guarded (nat_le (want stack) (lead_level l) && suits (asks asked stack) (lead_on_terms l) && nat_lt (opened stack) limit) state
+leads limit asked l stack state = guarded (may_lead limit asked l stack) state
 
 -- a sign after an operand
 abbrev pub joins : (limit : ℕ) (asked : Bool) → Sign → List Frame × Item → Option State

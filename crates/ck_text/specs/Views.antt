@@ -12,7 +12,14 @@ use Rattle.ck_text.specs.declared.items.Held.TheVariants as helds
 use Rattle.ck_text.specs.declared.items.Frame as code_frame
 use Rattle.ck_text.specs.Texts.{Lead, prefix, binder}
 use Rattle.ck_text.specs.Reading.{Tree, of_term, of_formula}
-use Rattle.ck_text.specs.Items.{Item, Held, leading, operand, parenthesis, Frame, takes}
+use Rattle.ck_text.specs.Items.{Item, Held, leading, operand, parenthesis, Frame, State, wanting, having, naming, named, sorting, sorted, takes}
+use Rattle.ck_text.specs.Tokens.{Token, word, number, truth, sort, quantifier, joining, mark, none}
+use Rattle.std.specs.declared.option.Option.{Option}
+use Rattle.std.specs.Option.{option_map}
+use Rattle.ck_text.specs.declared.reader.Mode as code_mode
+use Rattle.ck_text.specs.declared.reader.Mode.TheVariants as modes
+use Rattle.ck_text.specs.declared.reader.Token as code_token
+use Rattle.ck_text.specs.declared.reader.Token.TheVariants as tokens
 
 abbrev pub tree : code_tree.Tree → Tree
 tree (trees.Term t) = of_term (term_tree t)
@@ -43,3 +50,24 @@ takes_top least frames = by (stack frames) where
   by : List Frame → Bool
   by [] = false
   by (f ∷ stack) = takes least f.held
+
+abbrev pub state : code_mode.Mode → List code_frame.Frame → State
+state modes.Wanting frames = wanting (stack frames)
+state (modes.Having i) frames = having (stack frames) (item i)
+state (modes.Naming q) frames = naming q (stack frames)
+state (modes.Named q bytes) frames = named q bytes.now (stack frames)
+state (modes.Sorting q bytes) frames = sorting q bytes.now (stack frames)
+state (modes.Sorted q bytes s) frames = sorted q bytes.now s (stack frames)
+
+abbrev pub maybe_state : Option code_mode.Mode → List code_frame.Frame → Option State
+maybe_state mode frames = option_map (λ m. state m frames) mode
+
+abbrev pub token : code_token.Token → Token
+token (tokens.Word bytes) = word bytes.now
+token (tokens.Number n) = number n
+token (tokens.Truth b) = truth b
+token (tokens.Sort s) = sort s
+token (tokens.Quantifier q) = quantifier q
+token (tokens.Joining o) = joining o
+token (tokens.Mark m) = mark m
+token tokens.None = none

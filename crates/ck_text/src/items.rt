@@ -1,6 +1,6 @@
 //! What the reader keeps of each text, and the frames that take it as an operand.
 
-ghost use Rattle.std.specs.Prelude.{◌≡◌, true, false, ◌+◌, ◌≤◌, length, max, List, ℕ, IfOk};
+ghost use Rattle.std.specs.Prelude.{◌≡◌, true, false, ◌<◌, ◌^◌, ◌+◌, ◌≤◌, length, max, List, ℕ, IfOk};
 ghost use Rattle.sorted_terms.specs.Tree.{term_tree};
 ghost use Rattle.sorted_terms.specs.Tree as term_spec;
 ghost use Rattle.formulas.specs.Tree.{formula_tree};
@@ -70,7 +70,7 @@ fn grown(levels: u32) -> u32
 }
 
 // The levels as a formula.
-fn height(i: &Item) -> u32
+pub(crate) fn height(i: &Item) -> u32
     ensures { result ≡ spec.height FORMULA_DEPTH (views.item i.now) }
 {
     match &i.tree {
@@ -79,7 +79,7 @@ fn height(i: &Item) -> u32
     }
 }
 
-fn as_term(tree: Tree) -> Term
+pub(crate) fn as_term(tree: Tree) -> Term
     ensures { term_tree result ≡ spec.as_term (views.tree tree) }
 {
     match tree {
@@ -88,7 +88,7 @@ fn as_term(tree: Tree) -> Term
     }
 }
 
-fn as_formula(tree: Tree) -> Formula
+pub(crate) fn as_formula(tree: Tree) -> Formula
     ensures { formula_tree result ≡ spec.as_formula (views.tree tree) }
 {
     match tree {
@@ -135,7 +135,7 @@ fn larger(a: u32, b: u32) -> u32
     if a <= b { b } else { a }
 }
 
-fn leaf(t: Term) -> Item
+pub(crate) fn leaf(t: Term) -> Item
     ensures { views.item result ≡ spec.leaf_item (term_tree t) }
 {
     Item {
@@ -146,7 +146,7 @@ fn leaf(t: Term) -> Item
     }
 }
 
-fn closed(i: Item) -> Item
+pub(crate) fn closed(i: Item) -> Item
     ensures { views.item result ≡ spec.closed_item (views.item i) }
 {
     Item {
@@ -154,6 +154,30 @@ fn closed(i: Item) -> Item
         negative: None,
         levels: i.levels,
         tree: i.tree,
+    }
+}
+
+pub(crate) fn falsity() -> Item
+    ensures { views.item result ≡ spec.falsity_item }
+{
+    Item {
+        rank: 11,
+        negative: None,
+        levels: 1,
+        tree: Tree::Formula(Formula::Bottom),
+    }
+}
+
+pub(crate) fn number(n: u128) -> Item
+    requires { n < 2 ^ 127 }
+    ensures { views.item result ≡ spec.number_item n }
+{
+    let n = n as i128;
+    Item {
+        rank: 11,
+        negative: Some(-n),
+        levels: 1,
+        tree: Tree::Term(Term::Int(n)),
     }
 }
 
@@ -254,7 +278,7 @@ fn connected(alloc: Global, o: Sign, i: Item, j: Item) -> Result<Item, NoMemory>
     })
 }
 
-fn on_terms(o: Sign) -> bool
+pub(crate) fn on_terms(o: Sign) -> bool
     ensures { result ≡ grammar.on_terms o }
 {
     match o {
@@ -263,7 +287,7 @@ fn on_terms(o: Sign) -> bool
     }
 }
 
-fn joined(alloc: Global, o: Sign, i: Item, j: Item) -> Result<Item, NoMemory>
+pub(crate) fn joined(alloc: Global, o: Sign, i: Item, j: Item) -> Result<Item, NoMemory>
     ensures { IfOk result (λ k. views.item k ≡ spec.joined_item FORMULA_DEPTH o (views.item i) (views.item j)) }
 {
     if on_terms(o) {
@@ -283,7 +307,7 @@ fn taken(alloc: Global, held: Held, i: Item) -> Result<Item, NoMemory>
     }
 }
 
-fn lead_level(l: Lead) -> u32
+pub(crate) fn lead_level(l: Lead) -> u32
     ensures { result ≡ grammar.lead_level (views.lead l.entry) }
 {
     match l {
@@ -294,7 +318,7 @@ fn lead_level(l: Lead) -> u32
     }
 }
 
-fn right_want(o: Sign) -> u32
+pub(crate) fn right_want(o: Sign) -> u32
     ensures { result ≡ grammar.right_want o }
 {
     match o {
@@ -329,7 +353,7 @@ fn takes_top(least: u32, frames: &[Frame]) -> bool
 }
 
 // The frames that want at least that level take the item as their operand, up to a `(`.
-fn reduced<'a>(
+pub(crate) fn reduced<'a>(
     alloc: Global,
     stack: &mut List<Frame<'a>>,
     least: u32,

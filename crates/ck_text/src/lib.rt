@@ -9,6 +9,7 @@
 
 pub mod items;
 pub mod laws;
+pub mod reader;
 pub mod token;
 
 pub use token::{Mark, Prefix, Quantifier, Sign};

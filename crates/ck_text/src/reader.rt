@@ -1,0 +1,193 @@
+//! The reader of texts over tokens.
+
+ghost use Rattle.std.specs.Prelude.{◌≡◌, suc, true, false, ◌+◌, ◌≤◌, ◌<◌, ◌^◌, ◌&&◌, nat_le, nat_lt, length, List, [], ◌∷◌, Some, None, IfOk, OnOk, IfErr};
+ghost use Rattle.std.specs.Option.{option_map};
+ghost use Rattle.sorted_terms.specs.Tree.{term_tree};
+ghost use Rattle.ck_base.specs.declared.limits.TheConstants.{FORMULA_DEPTH, NESTING};
+ghost use Rattle.ck_text.specs.declared.token.Prefix.TheVariants as prefixes;
+ghost use Rattle.ck_text.specs.Items as spec;
+ghost use Rattle.ck_text.specs.Texts as grammar;
+ghost use Rattle.ck_text.specs.Views as views;
+
+use crate::items::{Frame, Held, Item, Lead, Tree, closed, falsity, joined, leaf, lead_level, number, on_terms, reduced, right_want};
+use crate::token::{Mark, Prefix, Quantifier, Sign};
+use ck_base::limits::NESTING;
+use ck_base::{Decls, List, NoMemory, Sort};
+use sorted_terms::Term;
+use std::alloc::Global;
+
+/// A token.
+#[derive(Clone, Copy)]
+pub(crate) enum Token<'a> {
+    Word(&'a [u8]),
+    Number(u128),
+    Truth(bool),
+    Sort(Sort),
+    Quantifier(Quantifier),
+    Joining(Sign),
+    Mark(Mark),
+    None,
+}
+
+/// What comes next.
+#[derive(Drop)]
+pub(crate) enum Mode<'a> {
+    Wanting,
+    Having(Item),
+    Naming(Quantifier),
+    Named(Quantifier, &'a [u8]),
+    Sorting(Quantifier, &'a [u8]),
+    Sorted(Quantifier, &'a [u8], Sort),
+}
+
+fn want(frames: &[Frame]) -> u32
+    ensures { result ≡ spec.want (views.stack frames.now) }
+{
+    match frames {
+        [] => 0,
+        [.., top] => match &top.held {
+            Held::Leading(l) => lead_level(*l),
+            Held::Operand(o, _) => right_want(*o),
+            Held::Parenthesis => 0,
+        },
+    }
+}
+
+fn asks(asked: bool, frames: &[Frame]) -> bool
+    ensures { result ≡ spec.asks asked (views.stack frames.now) }
+{
+    match frames {
+        [] => asked,
+        [.., top] => top.asks,
+    }
+}
+
+fn opened(frames: &[Frame]) -> u32
+    ensures { result ≡ spec.opened (views.stack frames.now) }
+{
+    match frames {
+        [] => 0,
+        [.., top] => top.opened,
+    }
+}
+
+fn suits(asked: bool, term: bool) -> bool
+    ensures { result ≡ grammar.suits asked term }
+{
+    !asked || term
+}
+
+fn left_want(o: Sign) -> u32
+    ensures { result ≡ grammar.left_want o }
+{
+    match o {
+        Sign::Implies => 1,
+        Sign::OrElse => 2,
+        Sign::AndAlso => 3,
+        Sign::Either => 4,
+        Sign::Both => 5,
+        Sign::Equal | Sign::Less | Sign::AtMost | Sign::Plus | Sign::Minus => 8,
+        Sign::Times => 9,
+    }
+}
+
+fn next_level(o: Sign) -> u32
+    ensures { result ≡ suc (grammar.level o) }
+{
+    match o {
+        Sign::Implies => 1,
+        Sign::OrElse => 2,
+        Sign::AndAlso => 3,
+        Sign::Either => 5,
+        Sign::Both => 6,
+        Sign::Equal | Sign::Less | Sign::AtMost => 8,
+        Sign::Plus | Sign::Minus => 9,
+        Sign::Times => 10,
+    }
+}
+
+fn lead_on_terms(l: Lead) -> bool
+    ensures { result ≡ grammar.lead_on_terms (views.lead l.entry) }
+{
+    match l {
+        Lead::Prefix(Prefix::Tilde) => false,
+        Lead::Prefix(Prefix::Not) => true,
+        Lead::Prefix(Prefix::Minus) => true,
+        Lead::Binder(_, _, _) => false,
+    }
+}
+
+fn is_term(i: &Item) -> bool
+    ensures { result ≡ spec.is_term_tree (views.item i.now).tree }
+{
+    match &i.tree {
+        Tree::Term(_) => true,
+        Tree::Formula(_) => false,
+    }
+}
+
+// Whether a lead may stand here.
+fn may_lead(asked: bool, frames: &[Frame], l: Lead) -> bool
+    ensures { result ≡ spec.may_lead NESTING asked (views.lead l.entry) (views.stack frames.now) }
+{
+    want(frames) <= lead_level(l) && suits(asks(asked, frames), lead_on_terms(l)) && opened(frames) < NESTING
+}
+
+fn with_lead<'a>(stack: &mut List<Frame<'a>>, l: Lead<'a>) -> Result<(), NoMemory>
+    requires { spec.opened (views.stack stack.old) < NESTING }
+    ensures { OnOk result (views.stack stack.new ≡ spec.with_lead (views.lead l.entry) (views.stack stack.old)) }
+{
+    let opened = opened(stack.as_slice()) + 1;
+    let asks = lead_on_terms(l);
+    stack.push(Frame { held: Held::Leading(l), asks, opened })
+}
+
+fn with_parenthesis(stack: &mut List<Frame>, asked: bool) -> Result<(), NoMemory>
+    requires { spec.opened (views.stack stack.old) < NESTING }
+    ensures { OnOk result (views.stack stack.new ≡ spec.with_parenthesis asked (views.stack stack.old)) }
+{
+    let opened = opened(stack.as_slice()) + 1;
+    let asks = asks(asked, stack.as_slice());
+    stack.push(Frame { held: Held::Parenthesis, asks, opened })
+}
+
+// A prefix sign.
+fn led<'a>(asked: bool, stack: &mut List<Frame<'a>>, p: Prefix) -> Result<Option<Mode<'a>>, NoMemory>
+    ensures { IfOk result (λ m. views.maybe_state m stack.new ≡ spec.leads NESTING asked (grammar.prefix p) (views.stack stack.old) (spec.wanting (spec.with_lead (grammar.prefix p) (views.stack stack.old)))) }
+{
+    let l = Lead::Prefix(p);
+    if !may_lead(asked, stack.as_slice(), l) {
+        return Ok(None);
+    }
+    with_lead(stack, l)?;
+    Ok(Some(Mode::Wanting))
+}
+
+// A sign after an operand.
+fn joins<'a>(alloc: Global, asked: bool, stack: &mut List<Frame<'a>>, i: Item, o: Sign) -> Result<Option<Mode<'a>>, NoMemory>
+    ensures { IfOk result (λ m. views.maybe_state m stack.new ≡ spec.joins NESTING asked o (spec.reduced FORMULA_DEPTH (suc (grammar.level o)) (views.stack stack.old) (views.item i))) }
+{
+    let i = reduced(alloc, stack, next_level(o), i)?;
+    let on = on_terms(o);
+    let opens = if on { 0 } else { 1 };
+    let around = opened(stack.as_slice());
+    if left_want(o) <= i.rank && suits(on, is_term(&i)) && suits(asks(asked, stack.as_slice()), on) && around <= NESTING - opens {
+        stack.push(Frame { held: Held::Operand(o, i), asks: on, opened: opens + around })?;
+        return Ok(Some(Mode::Wanting));
+    }
+    Ok(None)
+}
+
+// A `)` after an operand.
+fn closes<'a>(alloc: Global, stack: &mut List<Frame<'a>>, i: Item) -> Result<Option<Mode<'a>>, NoMemory>
+    ensures { IfOk result (λ m. views.maybe_state m stack.new ≡ spec.closes (spec.reduced FORMULA_DEPTH 0 (views.stack stack.old) (views.item i))) }
+{
+    let i = reduced(alloc, stack, 0, i)?;
+    match stack.pop() {
+        Some(frame) => match frame.held {
+            Held::Parenthesis => Ok(Some(Mode::Having(closed(i)))),
+            _ => Ok(None),
+        },
+        None => Ok(None),
+    }
+}
