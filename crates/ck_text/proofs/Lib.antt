@@ -12,3 +12,5 @@ pub mod Shown
 pub mod Kept
 pub mod Following
 pub mod Outcomes
+pub mod Values
+pub mod Numbers

@@ -1,5 +1,6 @@
 -- What the reader's code keeps, as its definitions say it.
-use Rattle.std.specs.Prelude.{ℕ, Bool, false, List, [], ◌∷◌, map, reverse}
+use Rattle.ck_base.specs.declared.limits.TheConstants.{NESTING}
+use Rattle.std.specs.Prelude.{ℕ, ◌<◌, ◌^◌, Bool, false, List, [], ◌∷◌, map, reverse}
 use Rattle.sorted_terms.specs.Tree.{term_tree}
 use Rattle.formulas.specs.Tree.{formula_tree}
 use Rattle.ck_text.specs.declared.items.Tree as code_tree
@@ -10,9 +11,10 @@ use Rattle.ck_text.specs.declared.items.Lead.TheVariants as leads
 use Rattle.ck_text.specs.declared.items.Held as code_held
 use Rattle.ck_text.specs.declared.items.Held.TheVariants as helds
 use Rattle.ck_text.specs.declared.items.Frame as code_frame
-use Rattle.ck_text.specs.Texts.{Lead, prefix, binder}
+use Rattle.ck_base.specs.declared.decl.Decl.{Decl}
+use Rattle.ck_text.specs.Texts.{Lead, prefix, binder, Scope}
 use Rattle.ck_text.specs.Reading.{Tree, of_term, of_formula}
-use Rattle.ck_text.specs.Items.{Item, Held, leading, operand, parenthesis, Frame, State, wanting, having, naming, named, sorting, sorted, takes}
+use Rattle.ck_text.specs.Items.{Item, Held, leading, operand, parenthesis, Frame, State, wanting, having, naming, named, sorting, sorted, takes, opened}
 use Rattle.ck_text.specs.Tokens.{Token, word, number, truth, sort, quantifier, joining, mark, none}
 use Rattle.std.specs.declared.option.Option.{Option}
 use Rattle.std.specs.Option.{option_map}
@@ -71,3 +73,20 @@ token (tokens.Quantifier q) = quantifier q
 token (tokens.Joining o) = joining o
 token (tokens.Mark m) = mark m
 token tokens.None = none
+
+-- the scope of a whole text
+abbrev pub scope : List Decl → ℕ → Scope
+scope names variables = record { names = names; variables = variables; bound = [] }
+
+-- a number is below 2^127
+abbrev pub IsSmall : Token → Type 0
+IsSmall (number n) = n < 2 ^ 127
+IsSmall t = Unit {0}
+
+-- a quantifier that is read in part may still open a level
+abbrev pub HasRoom : State → Type 0
+HasRoom (naming q stack) = opened stack < NESTING
+HasRoom (named q bytes stack) = opened stack < NESTING
+HasRoom (sorting q bytes stack) = opened stack < NESTING
+HasRoom (sorted q bytes s stack) = opened stack < NESTING
+HasRoom state = Unit {0}

@@ -9,6 +9,7 @@
 
 pub mod items;
 pub mod laws;
+pub mod names;
 pub mod reader;
 pub mod token;
 

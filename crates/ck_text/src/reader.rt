@@ -10,6 +10,7 @@ ghost use Rattle.ck_text.specs.Texts as grammar;
 ghost use Rattle.ck_text.specs.Views as views;
 
 use crate::items::{Frame, Held, Item, Lead, Tree, closed, falsity, joined, leaf, lead_level, number, on_terms, reduced, right_want};
+use crate::names::meaning;
 use crate::token::{Mark, Prefix, Quantifier, Sign};
 use ck_base::limits::NESTING;
 use ck_base::{Decls, List, NoMemory, Sort};
@@ -189,5 +190,97 @@ fn closes<'a>(alloc: Global, stack: &mut List<Frame<'a>>, i: Item) -> Result<Opt
             _ => Ok(None),
         },
         None => Ok(None),
+    }
+}
+
+// The mode after a token where an operand is wanted.
+fn operand<'a>(
+    alloc: Global,
+    names: &Decls,
+    variables: u32,
+    asked: bool,
+    stack: &mut List<Frame<'a>>,
+    t: Token<'a>,
+) -> Result<Option<Mode<'a>>, NoMemory>
+    requires few { length stack.old < 2 ^ 31 }
+    requires variables { variables < 2 ^ 31 }
+    requires small { views.IsSmall (views.token t) }
+    ensures { IfOk result (λ m. views.maybe_state m stack.new ≡ spec.step NESTING FORMULA_DEPTH asked (views.scope names.now variables) (spec.wanting (views.stack stack.old)) (views.token t.entry)) }
+{
+    match t {
+        Token::Truth(b) => Ok(Some(Mode::Having(leaf(Term::Truth(b))))),
+        Token::Word(name) => Ok(Some(Mode::Having(name_item(meaning(names, variables, stack.as_slice(), name))))),
+        Token::Number(n) => Ok(Some(Mode::Having(number(n)))),
+        Token::Mark(Mark::Bottom) if suits(asks(asked, stack.as_slice()), false) => Ok(Some(Mode::Having(falsity()))),
+        Token::Mark(Mark::Open) if opened(stack.as_slice()) < NESTING => {
+            with_parenthesis(stack, asked)?;
+            Ok(Some(Mode::Wanting))
+        }
+        Token::Mark(Mark::Tilde) => led(asked, stack, Prefix::Tilde),
+        Token::Mark(Mark::Not) => led(asked, stack, Prefix::Not),
+        Token::Joining(Sign::Minus) => led(asked, stack, Prefix::Minus),
+        Token::Quantifier(q) if may_lead(asked, stack.as_slice(), Lead::Binder(q, b"", None)) => Ok(Some(Mode::Naming(q))),
+        _ => Ok(None),
+    }
+}
+
+fn name_item(meaning: Option<Term>) -> Item
+    ensures { views.item result ≡ spec.name_item (option_map term_tree meaning) }
+{
+    match meaning {
+        Some(t) => leaf(t),
+        None => leaf(Term::Bound(0)),
+    }
+}
+
+// A quantifier with its name and sort.
+fn bound<'a>(stack: &mut List<Frame<'a>>, q: Quantifier, name: &'a [u8], s: Option<Sort>) -> Result<Option<Mode<'a>>, NoMemory>
+    requires { spec.opened (views.stack stack.old) < NESTING }
+    ensures { IfOk result (λ m. views.maybe_state m stack.new ≡ Some (spec.wanting (spec.with_lead (grammar.binder q name.now s) (views.stack stack.old)))) }
+{
+    with_lead(stack, Lead::Binder(q, name, s))?;
+    Ok(Some(Mode::Wanting))
+}
+
+// The mode after a token.
+fn step<'a>(
+    alloc: Global,
+    names: &Decls,
+    variables: u32,
+    asked: bool,
+    stack: &mut List<Frame<'a>>,
+    mode: Mode<'a>,
+    t: Token<'a>,
+) -> Result<Option<Mode<'a>>, NoMemory>
+    requires few { length stack.old < 2 ^ 31 }
+    requires variables { variables < 2 ^ 31 }
+    requires small { views.IsSmall (views.token t) }
+    requires room { views.HasRoom (views.state mode stack.old) }
+    ensures { IfOk result (λ m. views.maybe_state m stack.new ≡ spec.step NESTING FORMULA_DEPTH asked (views.scope names.now variables) (views.state mode.entry stack.old) (views.token t.entry)) }
+{
+    match mode {
+        Mode::Wanting => operand(alloc, names, variables, asked, stack, t),
+        Mode::Having(i) => match t {
+            Token::Joining(o) => joins(alloc, asked, stack, i, o),
+            Token::Mark(Mark::Close) => closes(alloc, stack, i),
+            _ => Ok(None),
+        },
+        Mode::Naming(q) => match t {
+            Token::Word(name) => Ok(Some(Mode::Named(q, name))),
+            _ => Ok(None),
+        },
+        Mode::Named(q, name) => match t {
+            Token::Mark(Mark::Colon) => Ok(Some(Mode::Sorting(q, name))),
+            Token::Mark(Mark::Dot) => bound(stack, q, name, None),
+            _ => Ok(None),
+        },
+        Mode::Sorting(q, name) => match t {
+            Token::Sort(s) => Ok(Some(Mode::Sorted(q, name, s))),
+            _ => Ok(None),
+        },
+        Mode::Sorted(q, name, s) => match t {
+            Token::Mark(Mark::Dot) => bound(stack, q, name, Some(s)),
+            _ => Ok(None),
+        },
     }
 }
