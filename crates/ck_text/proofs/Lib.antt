@@ -14,3 +14,5 @@ pub mod Following
 pub mod Outcomes
 pub mod Values
 pub mod Numbers
+pub mod Rooms
+pub mod Runs

@@ -1,6 +1,10 @@
 -- What the reader's code keeps, as its definitions say it.
 use Rattle.ck_base.specs.declared.limits.TheConstants.{NESTING}
-use Rattle.std.specs.Prelude.{ℕ, ◌<◌, ◌^◌, Bool, false, List, [], ◌∷◌, map, reverse}
+use Rattle.std.specs.declared.result.Result.{Result}
+use Rattle.ck_text.specs.declared.reader.Stop.{Stop}
+use Rattle.ck_text.specs.declared.reader.Stop.TheVariants as stops
+use Rattle.ck_text.specs.declared.reader.Placed as code_placed
+use Rattle.std.specs.Prelude.{◌≡◌, Ok, Err, ℕ, ◌<◌, ◌^◌, Bool, false, List, [], ◌∷◌, map, reverse}
 use Rattle.sorted_terms.specs.Tree.{term_tree}
 use Rattle.formulas.specs.Tree.{formula_tree}
 use Rattle.ck_text.specs.declared.items.Tree as code_tree
@@ -15,7 +19,7 @@ use Rattle.ck_base.specs.declared.decl.Decl.{Decl}
 use Rattle.ck_text.specs.Texts.{Lead, prefix, binder, Scope}
 use Rattle.ck_text.specs.Reading.{Tree, of_term, of_formula}
 use Rattle.ck_text.specs.Items.{Item, Held, leading, operand, parenthesis, Frame, State, wanting, having, naming, named, sorting, sorted, takes, opened}
-use Rattle.ck_text.specs.Tokens.{Token, word, number, truth, sort, quantifier, joining, mark, none}
+use Rattle.ck_text.specs.Tokens.{Token, Placed, word, number, truth, sort, quantifier, joining, mark, none}
 use Rattle.std.specs.declared.option.Option.{Option}
 use Rattle.std.specs.Option.{option_map}
 use Rattle.ck_text.specs.declared.reader.Mode as code_mode
@@ -90,3 +94,16 @@ HasRoom (named q bytes stack) = opened stack < NESTING
 HasRoom (sorting q bytes stack) = opened stack < NESTING
 HasRoom (sorted q bytes s stack) = opened stack < NESTING
 HasRoom state = Unit {0}
+
+abbrev pub placed : code_placed.Placed → Placed
+placed p = record { left = p.left; token = token p.token }
+
+abbrev pub AreSmall : List Placed → Type 0
+AreSmall [] = Unit {0}
+AreSmall (p ∷ placed) = IsSmall p.token × AreSmall placed
+
+-- what the code's run answers is what the run over items answers
+abbrev pub Runs : Result (code_item.Item × Option ℕ) Stop → Result (Item × Option ℕ) ℕ → Type 0
+Runs (Ok x) answer = answer ≡ Ok (item x.0, x.1)
+Runs (Err (stops.At left)) answer = answer ≡ Err left
+Runs (Err stops.NoMemory) answer = Unit {0}

@@ -1,6 +1,6 @@
 //! What the reader keeps of each text, and the frames that take it as an operand.
 
-ghost use Rattle.std.specs.Prelude.{◌≡◌, true, false, ◌<◌, ◌^◌, ◌+◌, ◌≤◌, length, max, List, ℕ, IfOk};
+ghost use Rattle.std.specs.Prelude.{◌≡◌, true, false, ◌<◌, ◌^◌, ◌+◌, ◌≤◌, length, max, List, ℕ, IfOk, OnOk};
 ghost use Rattle.sorted_terms.specs.Tree.{term_tree};
 ghost use Rattle.sorted_terms.specs.Tree as term_spec;
 ghost use Rattle.formulas.specs.Tree.{formula_tree};
@@ -359,7 +359,8 @@ pub(crate) fn reduced<'a>(
     least: u32,
     i: Item,
 ) -> Result<Item, NoMemory>
-    ensures { IfOk result (λ j. (views.stack stack.new, views.item j) ≡ spec.reduced FORMULA_DEPTH least (views.stack stack.old) (views.item i)) }
+    ensures taken { IfOk result (λ j. (views.stack stack.new, views.item j) ≡ spec.reduced FORMULA_DEPTH least (views.stack stack.old) (views.item i)) }
+    ensures few { OnOk result (length stack.new ≤ length stack.old) }
 {
     let mut i = i;
     while takes_top(least, stack.as_slice()) {

@@ -1,6 +1,6 @@
 //! The reader of texts over tokens.
 
-ghost use Rattle.std.specs.Prelude.{◌≡◌, suc, true, false, ◌+◌, ◌≤◌, ◌<◌, ◌^◌, ◌&&◌, nat_le, nat_lt, length, List, [], ◌∷◌, Some, None, IfOk, OnOk, IfErr};
+ghost use Rattle.std.specs.Prelude.{◌≡◌, suc, true, false, ◌+◌, ◌≤◌, ◌<◌, ◌^◌, ◌&&◌, nat_le, nat_lt, length, map, List, [], ◌∷◌, Some, None, IfOk, OnOk, IfErr};
 ghost use Rattle.std.specs.Option.{option_map};
 ghost use Rattle.sorted_terms.specs.Tree.{term_tree};
 ghost use Rattle.ck_base.specs.declared.limits.TheConstants.{FORMULA_DEPTH, NESTING};
@@ -136,7 +136,8 @@ fn may_lead(asked: bool, frames: &[Frame], l: Lead) -> bool
 
 fn with_lead<'a>(stack: &mut List<Frame<'a>>, l: Lead<'a>) -> Result<(), NoMemory>
     requires { spec.opened (views.stack stack.old) < NESTING }
-    ensures { OnOk result (views.stack stack.new ≡ spec.with_lead (views.lead l.entry) (views.stack stack.old)) }
+    ensures few { OnOk result (length stack.new ≡ length stack.old + 1) }
+    ensures pushed { OnOk result (views.stack stack.new ≡ spec.with_lead (views.lead l.entry) (views.stack stack.old)) }
 {
     let opened = opened(stack.as_slice()) + 1;
     let asks = lead_on_terms(l);
@@ -145,7 +146,8 @@ fn with_lead<'a>(stack: &mut List<Frame<'a>>, l: Lead<'a>) -> Result<(), NoMemor
 
 fn with_parenthesis(stack: &mut List<Frame>, asked: bool) -> Result<(), NoMemory>
     requires { spec.opened (views.stack stack.old) < NESTING }
-    ensures { OnOk result (views.stack stack.new ≡ spec.with_parenthesis asked (views.stack stack.old)) }
+    ensures few { OnOk result (length stack.new ≡ length stack.old + 1) }
+    ensures pushed { OnOk result (views.stack stack.new ≡ spec.with_parenthesis asked (views.stack stack.old)) }
 {
     let opened = opened(stack.as_slice()) + 1;
     let asks = asks(asked, stack.as_slice());
@@ -154,7 +156,8 @@ fn with_parenthesis(stack: &mut List<Frame>, asked: bool) -> Result<(), NoMemory
 
 // A prefix sign.
 fn led<'a>(asked: bool, stack: &mut List<Frame<'a>>, p: Prefix) -> Result<Option<Mode<'a>>, NoMemory>
-    ensures { IfOk result (λ m. views.maybe_state m stack.new ≡ spec.leads NESTING asked (grammar.prefix p) (views.stack stack.old) (spec.wanting (spec.with_lead (grammar.prefix p) (views.stack stack.old)))) }
+    ensures few { OnOk result (length stack.new ≤ length stack.old + 1) }
+    ensures state { IfOk result (λ m. views.maybe_state m stack.new ≡ spec.leads NESTING asked (grammar.prefix p) (views.stack stack.old) (spec.wanting (spec.with_lead (grammar.prefix p) (views.stack stack.old)))) }
 {
     let l = Lead::Prefix(p);
     if !may_lead(asked, stack.as_slice(), l) {
@@ -166,7 +169,8 @@ fn led<'a>(asked: bool, stack: &mut List<Frame<'a>>, p: Prefix) -> Result<Option
 
 // A sign after an operand.
 fn joins<'a>(alloc: Global, asked: bool, stack: &mut List<Frame<'a>>, i: Item, o: Sign) -> Result<Option<Mode<'a>>, NoMemory>
-    ensures { IfOk result (λ m. views.maybe_state m stack.new ≡ spec.joins NESTING asked o (spec.reduced FORMULA_DEPTH (suc (grammar.level o)) (views.stack stack.old) (views.item i))) }
+    ensures few { OnOk result (length stack.new ≤ length stack.old + 1) }
+    ensures state { IfOk result (λ m. views.maybe_state m stack.new ≡ spec.joins NESTING asked o (spec.reduced FORMULA_DEPTH (suc (grammar.level o)) (views.stack stack.old) (views.item i))) }
 {
     let i = reduced(alloc, stack, next_level(o), i)?;
     let on = on_terms(o);
@@ -181,7 +185,8 @@ fn joins<'a>(alloc: Global, asked: bool, stack: &mut List<Frame<'a>>, i: Item, o
 
 // A `)` after an operand.
 fn closes<'a>(alloc: Global, stack: &mut List<Frame<'a>>, i: Item) -> Result<Option<Mode<'a>>, NoMemory>
-    ensures { IfOk result (λ m. views.maybe_state m stack.new ≡ spec.closes (spec.reduced FORMULA_DEPTH 0 (views.stack stack.old) (views.item i))) }
+    ensures few { OnOk result (length stack.new ≤ length stack.old + 1) }
+    ensures state { IfOk result (λ m. views.maybe_state m stack.new ≡ spec.closes (spec.reduced FORMULA_DEPTH 0 (views.stack stack.old) (views.item i))) }
 {
     let i = reduced(alloc, stack, 0, i)?;
     match stack.pop() {
@@ -205,7 +210,8 @@ fn operand<'a>(
     requires few { length stack.old < 2 ^ 31 }
     requires variables { variables < 2 ^ 31 }
     requires small { views.IsSmall (views.token t) }
-    ensures { IfOk result (λ m. views.maybe_state m stack.new ≡ spec.step NESTING FORMULA_DEPTH asked (views.scope names.now variables) (spec.wanting (views.stack stack.old)) (views.token t.entry)) }
+    ensures few { OnOk result (length stack.new ≤ length stack.old + 1) }
+    ensures state { IfOk result (λ m. views.maybe_state m stack.new ≡ spec.step NESTING FORMULA_DEPTH asked (views.scope names.now variables) (spec.wanting (views.stack stack.old)) (views.token t.entry)) }
 {
     match t {
         Token::Truth(b) => Ok(Some(Mode::Having(leaf(Term::Truth(b))))),
@@ -236,7 +242,8 @@ fn name_item(meaning: Option<Term>) -> Item
 // A quantifier with its name and sort.
 fn bound<'a>(stack: &mut List<Frame<'a>>, q: Quantifier, name: &'a [u8], s: Option<Sort>) -> Result<Option<Mode<'a>>, NoMemory>
     requires { spec.opened (views.stack stack.old) < NESTING }
-    ensures { IfOk result (λ m. views.maybe_state m stack.new ≡ Some (spec.wanting (spec.with_lead (grammar.binder q name.now s) (views.stack stack.old)))) }
+    ensures few { OnOk result (length stack.new ≤ length stack.old + 1) }
+    ensures state { IfOk result (λ m. views.maybe_state m stack.new ≡ Some (spec.wanting (spec.with_lead (grammar.binder q name.now s) (views.stack stack.old)))) }
 {
     with_lead(stack, Lead::Binder(q, name, s))?;
     Ok(Some(Mode::Wanting))
@@ -256,7 +263,8 @@ fn step<'a>(
     requires variables { variables < 2 ^ 31 }
     requires small { views.IsSmall (views.token t) }
     requires room { views.HasRoom (views.state mode stack.old) }
-    ensures { IfOk result (λ m. views.maybe_state m stack.new ≡ spec.step NESTING FORMULA_DEPTH asked (views.scope names.now variables) (views.state mode.entry stack.old) (views.token t.entry)) }
+    ensures few { OnOk result (length stack.new ≤ length stack.old + 1) }
+    ensures state { IfOk result (λ m. views.maybe_state m stack.new ≡ spec.step NESTING FORMULA_DEPTH asked (views.scope names.now variables) (views.state mode.entry stack.old) (views.token t.entry)) }
 {
     match mode {
         Mode::Wanting => operand(alloc, names, variables, asked, stack, t),
@@ -282,5 +290,100 @@ fn step<'a>(
             Token::Mark(Mark::Dot) => bound(stack, q, name, Some(s)),
             _ => Ok(None),
         },
+    }
+}
+
+/// A token, and how many bytes there are from its first one to the end of the text.
+#[derive(Clone, Copy)]
+pub(crate) struct Placed<'a> {
+    pub(crate) left: usize,
+    pub(crate) token: Token<'a>,
+}
+
+/// What stops the reader: a token, by its place, or memory.
+pub(crate) enum Stop {
+    At(usize),
+    NoMemory,
+}
+
+impl From<NoMemory> for Stop {
+    ghost use Rattle.std.specs.Prelude.{◌≡◌};
+    ghost use Rattle.ck_text.specs.declared.reader.Stop.TheVariants.{NoMemory};
+
+    ghost from_gives = { λ _ e. e ≡ NoMemory };
+
+    fn from(_e: NoMemory) -> Stop {
+        Stop::NoMemory
+    }
+}
+
+// The place of the token, where it is a name that means nothing.
+fn unknown_here(names: &Decls, variables: u32, frames: &[Frame], mode: &Mode, p: Placed) -> Option<usize>
+    requires few { length frames.now < 2 ^ 31 }
+    requires variables { variables < 2 ^ 31 }
+    ensures { result ≡ spec.unknown_here (views.scope names.now variables) (views.state mode.now frames.now) (views.token p.entry.token) p.entry.left }
+{
+    match mode {
+        Mode::Wanting => match p.token {
+            Token::Word(name) => match meaning(names, variables, frames, name) {
+                Some(_) => None,
+                None => Some(p.left),
+            },
+            _ => None,
+        },
+        _ => None,
+    }
+}
+
+// The first place of a name that means nothing, with this token.
+fn first_unknown(names: &Decls, variables: u32, frames: &[Frame], mode: &Mode, p: Placed, unknown: Option<usize>) -> Option<usize>
+    requires few { length frames.now < 2 ^ 31 }
+    requires variables { variables < 2 ^ 31 }
+    ensures { result ≡ grammar.first_of unknown (spec.unknown_here (views.scope names.now variables) (views.state mode.now frames.now) (views.token p.entry.token) p.entry.left) }
+{
+    match unknown {
+        Some(left) => Some(left),
+        None => unknown_here(names, variables, frames, mode, p),
+    }
+}
+
+// The item that ends here.
+fn finished<'a>(alloc: Global, stack: &mut List<Frame<'a>>, mode: Mode<'a>) -> Result<Option<Item>, NoMemory>
+    ensures { IfOk result (λ i. option_map views.item i ≡ spec.finished FORMULA_DEPTH (views.state mode.entry stack.old)) }
+{
+    match mode {
+        Mode::Having(i) => {
+            let i = reduced(alloc, stack, 0, i)?;
+            match stack.pop() {
+                Some(_) => Ok(None),
+                None => Ok(Some(i)),
+            }
+        }
+        _ => Ok(None),
+    }
+}
+
+// The item of the tokens and the place of its first name that means nothing, or where the reader stops.
+fn run(alloc: Global, names: &Decls, variables: u32, asked: bool, placed: &[Placed]) -> Result<(Item, Option<usize>), Stop>
+    requires few { length placed.now < 2 ^ 31 }
+    requires variables { variables < 2 ^ 31 }
+    requires small { views.AreSmall (map views.placed placed.now) }
+    ensures { views.Runs result (spec.run NESTING FORMULA_DEPTH asked (views.scope names.now variables) (map views.placed placed.now) (spec.wanting []) None) }
+{
+    let mut stack = List::new(alloc);
+    let mut mode = Mode::Wanting;
+    let mut unknown = None;
+    let mut rest = placed;
+    while let [p, more @ ..] = rest {
+        unknown = first_unknown(names, variables, stack.as_slice(), &mode, *p, unknown);
+        match step(alloc, names, variables, asked, &mut stack, mode, p.token)? {
+            Some(next) => mode = next,
+            None => return Err(Stop::At(p.left)),
+        }
+        rest = more;
+    }
+    match finished(alloc, &mut stack, mode)? {
+        Some(i) => Ok((i, unknown)),
+        None => Err(Stop::At(0)),
     }
 }
