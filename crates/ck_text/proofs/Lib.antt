@@ -16,3 +16,4 @@ pub mod Values
 pub mod Numbers
 pub mod Rooms
 pub mod Runs
+pub mod Smalls

@@ -1,5 +1,5 @@
 -- The number of a declared name, declaration by declaration.
-use Rattle.std.proofs.Common.{◌≡◌, ℕ, zero, suc, ◌+◌, ◌<◌, ◌≤◌, Bool, true, false, List, [], ◌∷◌, length, drop, refl, sym, ap, ◌∙◌, arith, slice_get, Option, Some, None, if◌then◌else◌}
+use Rattle.std.proofs.Common.{◌≡◌, ℕ, zero, suc, ◌+◌, ◌<◌, ◌≤◌, true, false, List, [], ◌∷◌, length, drop, refl, sym, ap, ◌∙◌, arith, slice_get, Option, Some, None}
 use Rattle.std.specs.Option.{option_map}
 use Rattle.std.proofs.Math.ListN.{drop_of_length-le}
 use Rattle.std.specs.Str.{bytes_eq}
@@ -41,5 +41,5 @@ module _ (name : List ℕ) (names : List Decl) (k : ℕ) (from : number_of name 
       let r = drop_at names k d (sym e) in
       let next : suc k ≡ k + 1 = omega arith in
       let here : number_of name (drop k names) ≡ option_map suc (number_of name (drop (k + 1) names)) =
-          ap (number_of name) r.0 ∙ (rw t refl) ∙ ap (λ n. option_map suc (number_of name (drop n names))) next in
+      ap (number_of name) r.0 ∙ (rw t refl) ∙ ap (λ n. option_map suc (number_of name (drop n names))) next in
       (from ∙ ap (option_map (λ j. k + j)) here ∙ later (number_of name (drop (k + 1) names)), omega (arith, r.1))

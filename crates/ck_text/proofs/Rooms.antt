@@ -1,13 +1,12 @@
 -- A quantifier that is read in part may still open a level: each step keeps this.
-use Rattle.std.proofs.Common.{◌≡◌, ℕ, suc, ◌<◌, Bool, true, false, ◌&&◌, List, [], ◌∷◌, refl, subst, Option, Some, None, nat_le, nat_lt}
+use Rattle.std.proofs.Common.{◌≡◌, ◌<◌, Bool, true, false, ◌&&◌, List, [], ◌∷◌, refl, subst, Some, None, nat_le, nat_lt}
 use Rattle.std.proofs.lemmas.Bool.{and_parts, ltb-true}
 use Rattle.ck_base.specs.declared.limits.TheConstants.{NESTING, FORMULA_DEPTH}
 use Rattle.ck_text.specs.declared.token.Sign.TheVariants as sign
-use Rattle.ck_text.specs.declared.token.Prefix.TheVariants as prefixes
 use Rattle.ck_text.specs.declared.token.Mark.TheVariants as marks
 use Rattle.ck_text.specs.Tokens.{Token}
 use Rattle.ck_text.specs.Tokens as token
-use Rattle.ck_text.specs.Texts.{Lead, prefix, binder, lead_level, lead_on_terms, suits, level, Scope}
+use Rattle.ck_text.specs.Texts.{Lead, binder, lead_level, lead_on_terms, suits, Scope}
 use Rattle.ck_text.specs.Items.{Item, Frame, State, wanting, having, naming, named, sorting, sorted, want, asks, opened, may_lead, guarded, reduced, closes, closed_by, leading, operand, parenthesis, step}
 use Rattle.ck_text.specs.Views.{HasRoom}
 

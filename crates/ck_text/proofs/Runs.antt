@@ -1,5 +1,5 @@
 -- The run of the code goes on by one token.
-use Rattle.std.proofs.Common.{◌≡◌, ℕ, suc, ◌+◌, ◌-◌, ◌≤◌, Bool, List, [], ◌∷◌, length, map, take, drop, get_or, refl, sym, subst, ap, ◌∙◌, arith, Option, Some, None}
+use Rattle.std.proofs.Common.{◌≡◌, ℕ, suc, ◌+◌, ◌-◌, ◌≤◌, Bool, List, [], ◌∷◌, length, map, take, drop, get_or, sym, subst, ap, arith, Option, Some}
 use Rattle.std.proofs.lemmas.List.{take_all}
 use Rattle.ck_base.specs.declared.limits.TheConstants.{NESTING, FORMULA_DEPTH}
 use Rattle.ck_text.specs.declared.reader.Placed.{Placed}
@@ -13,7 +13,7 @@ module _ (asked : Bool) (scope : Scope) where
   abbrev pub Goes : List Placed → Placed → State → State → Option ℕ → List Placed → Type 0
   Goes rest p st next unknown left =
       (run NESTING FORMULA_DEPTH asked scope (map views.placed rest) st unknown
-        ≡ run NESTING FORMULA_DEPTH asked scope (map views.placed left) next (first_of unknown (unknown_here scope st (views.token p.token) p.left)))
+      ≡ run NESTING FORMULA_DEPTH asked scope (map views.placed left) next (first_of unknown (unknown_here scope st (views.token p.token) p.left)))
       × views.AreSmall (map views.placed left) × views.HasRoom next × (1 + length left ≡ length rest)
 
   pub run_goes : (rest : List Placed) (other : Placed) (st next : State) (unknown : Option ℕ) → 1 ≤ length rest → views.AreSmall (map views.placed rest) → views.HasRoom st

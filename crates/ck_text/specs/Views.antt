@@ -1,6 +1,8 @@
 -- What the reader's code keeps, as its definitions say it.
 use Rattle.ck_base.specs.declared.limits.TheConstants.{NESTING}
 use Rattle.std.specs.declared.result.Result.{Result}
+use Rattle.ck_text.specs.declared.reader.TextFault.{TextFault}
+use Rattle.ck_text.specs.declared.reader.TextFault.TheVariants as faults
 use Rattle.ck_text.specs.declared.reader.Stop.{Stop}
 use Rattle.ck_text.specs.declared.reader.Stop.TheVariants as stops
 use Rattle.ck_text.specs.declared.reader.Placed as code_placed
@@ -17,7 +19,7 @@ use Rattle.ck_text.specs.declared.items.Held.TheVariants as helds
 use Rattle.ck_text.specs.declared.items.Frame as code_frame
 use Rattle.ck_base.specs.declared.decl.Decl.{Decl}
 use Rattle.ck_text.specs.Texts.{Lead, prefix, binder, Scope}
-use Rattle.ck_text.specs.Reading.{Tree, of_term, of_formula}
+use Rattle.ck_text.specs.Reading.{Tree, of_term, of_formula, Fault, by_syntax, by_depth, by_name}
 use Rattle.ck_text.specs.Items.{Item, Held, leading, operand, parenthesis, Frame, State, wanting, having, naming, named, sorting, sorted, takes, opened}
 use Rattle.ck_text.specs.Tokens.{Token, Placed, word, number, truth, sort, quantifier, joining, mark, none}
 use Rattle.std.specs.declared.option.Option.{Option}
@@ -107,3 +109,11 @@ abbrev pub Runs : Result (code_item.Item × Option ℕ) Stop → Result (Item ×
 Runs (Ok x) answer = answer ≡ Ok (item x.0, x.1)
 Runs (Err (stops.At left)) answer = answer ≡ Err left
 Runs (Err stops.NoMemory) answer = Unit {0}
+
+-- what the code answers is the outcome
+abbrev pub Reads : Result code_tree.Tree TextFault → Result Tree Fault → Type 0
+Reads (Ok t) outcome = outcome ≡ Ok (tree t)
+Reads (Err (faults.Syntax column)) outcome = outcome ≡ Err (by_syntax column)
+Reads (Err (faults.Depth column)) outcome = outcome ≡ Err (by_depth column)
+Reads (Err (faults.Name column)) outcome = outcome ≡ Err (by_name column)
+Reads (Err faults.NoMemory) outcome = Unit {0}

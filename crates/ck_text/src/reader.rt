@@ -8,11 +8,16 @@ ghost use Rattle.ck_text.specs.declared.token.Prefix.TheVariants as prefixes;
 ghost use Rattle.ck_text.specs.Items as spec;
 ghost use Rattle.ck_text.specs.Texts as grammar;
 ghost use Rattle.ck_text.specs.Views as views;
+ghost use Rattle.ck_text.specs.Reading as reading;
+ghost use Rattle.ck_text.specs.Tokens.{scan};
 
-use crate::items::{Frame, Held, Item, Lead, Tree, closed, falsity, joined, leaf, lead_level, number, on_terms, reduced, right_want};
+use crate::items::{
+    Frame, Held, Item, Lead, Tree, as_formula, as_term, closed, falsity, height, lead_level, leaf,
+    number, on_terms, reduced, right_want,
+};
 use crate::names::meaning;
 use crate::token::{Mark, Prefix, Quantifier, Sign};
-use ck_base::limits::NESTING;
+use ck_base::limits::{FORMULA_DEPTH, NESTING};
 use ck_base::{Decls, List, NoMemory, Sort};
 use sorted_terms::Term;
 use std::alloc::Global;
@@ -131,7 +136,9 @@ fn is_term(i: &Item) -> bool
 fn may_lead(asked: bool, frames: &[Frame], l: Lead) -> bool
     ensures { result ≡ spec.may_lead NESTING asked (views.lead l.entry) (views.stack frames.now) }
 {
-    want(frames) <= lead_level(l) && suits(asks(asked, frames), lead_on_terms(l)) && opened(frames) < NESTING
+    want(frames) <= lead_level(l)
+        && suits(asks(asked, frames), lead_on_terms(l))
+        && opened(frames) < NESTING
 }
 
 fn with_lead<'a>(stack: &mut List<Frame<'a>>, l: Lead<'a>) -> Result<(), NoMemory>
@@ -141,7 +148,11 @@ fn with_lead<'a>(stack: &mut List<Frame<'a>>, l: Lead<'a>) -> Result<(), NoMemor
 {
     let opened = opened(stack.as_slice()) + 1;
     let asks = lead_on_terms(l);
-    stack.push(Frame { held: Held::Leading(l), asks, opened })
+    stack.push(Frame {
+        held: Held::Leading(l),
+        asks,
+        opened,
+    })
 }
 
 fn with_parenthesis(stack: &mut List<Frame>, asked: bool) -> Result<(), NoMemory>
@@ -151,11 +162,19 @@ fn with_parenthesis(stack: &mut List<Frame>, asked: bool) -> Result<(), NoMemory
 {
     let opened = opened(stack.as_slice()) + 1;
     let asks = asks(asked, stack.as_slice());
-    stack.push(Frame { held: Held::Parenthesis, asks, opened })
+    stack.push(Frame {
+        held: Held::Parenthesis,
+        asks,
+        opened,
+    })
 }
 
 // A prefix sign.
-fn led<'a>(asked: bool, stack: &mut List<Frame<'a>>, p: Prefix) -> Result<Option<Mode<'a>>, NoMemory>
+fn led<'a>(
+    asked: bool,
+    stack: &mut List<Frame<'a>>,
+    p: Prefix,
+) -> Result<Option<Mode<'a>>, NoMemory>
     ensures few { OnOk result (length stack.new ≤ length stack.old + 1) }
     ensures state { IfOk result (λ m. views.maybe_state m stack.new ≡ spec.leads NESTING asked (grammar.prefix p) (views.stack stack.old) (spec.wanting (spec.with_lead (grammar.prefix p) (views.stack stack.old)))) }
 {
@@ -168,7 +187,13 @@ fn led<'a>(asked: bool, stack: &mut List<Frame<'a>>, p: Prefix) -> Result<Option
 }
 
 // A sign after an operand.
-fn joins<'a>(alloc: Global, asked: bool, stack: &mut List<Frame<'a>>, i: Item, o: Sign) -> Result<Option<Mode<'a>>, NoMemory>
+fn joins<'a>(
+    alloc: Global,
+    asked: bool,
+    stack: &mut List<Frame<'a>>,
+    i: Item,
+    o: Sign,
+) -> Result<Option<Mode<'a>>, NoMemory>
     ensures few { OnOk result (length stack.new ≤ length stack.old + 1) }
     ensures state { IfOk result (λ m. views.maybe_state m stack.new ≡ spec.joins NESTING asked o (spec.reduced FORMULA_DEPTH (suc (grammar.level o)) (views.stack stack.old) (views.item i))) }
 {
@@ -176,15 +201,27 @@ fn joins<'a>(alloc: Global, asked: bool, stack: &mut List<Frame<'a>>, i: Item, o
     let on = on_terms(o);
     let opens = if on { 0 } else { 1 };
     let around = opened(stack.as_slice());
-    if left_want(o) <= i.rank && suits(on, is_term(&i)) && suits(asks(asked, stack.as_slice()), on) && around <= NESTING - opens {
-        stack.push(Frame { held: Held::Operand(o, i), asks: on, opened: opens + around })?;
+    if left_want(o) <= i.rank
+        && suits(on, is_term(&i))
+        && suits(asks(asked, stack.as_slice()), on)
+        && around <= NESTING - opens
+    {
+        stack.push(Frame {
+            held: Held::Operand(o, i),
+            asks: on,
+            opened: opens + around,
+        })?;
         return Ok(Some(Mode::Wanting));
     }
     Ok(None)
 }
 
 // A `)` after an operand.
-fn closes<'a>(alloc: Global, stack: &mut List<Frame<'a>>, i: Item) -> Result<Option<Mode<'a>>, NoMemory>
+fn closes<'a>(
+    alloc: Global,
+    stack: &mut List<Frame<'a>>,
+    i: Item,
+) -> Result<Option<Mode<'a>>, NoMemory>
     ensures few { OnOk result (length stack.new ≤ length stack.old + 1) }
     ensures state { IfOk result (λ m. views.maybe_state m stack.new ≡ spec.closes (spec.reduced FORMULA_DEPTH 0 (views.stack stack.old) (views.item i))) }
 {
@@ -215,9 +252,16 @@ fn operand<'a>(
 {
     match t {
         Token::Truth(b) => Ok(Some(Mode::Having(leaf(Term::Truth(b))))),
-        Token::Word(name) => Ok(Some(Mode::Having(name_item(meaning(names, variables, stack.as_slice(), name))))),
+        Token::Word(name) => Ok(Some(Mode::Having(name_item(meaning(
+            names,
+            variables,
+            stack.as_slice(),
+            name,
+        ))))),
         Token::Number(n) => Ok(Some(Mode::Having(number(n)))),
-        Token::Mark(Mark::Bottom) if suits(asks(asked, stack.as_slice()), false) => Ok(Some(Mode::Having(falsity()))),
+        Token::Mark(Mark::Bottom) if suits(asks(asked, stack.as_slice()), false) => Ok(Some(
+            Mode::Having(falsity()),
+        )),
         Token::Mark(Mark::Open) if opened(stack.as_slice()) < NESTING => {
             with_parenthesis(stack, asked)?;
             Ok(Some(Mode::Wanting))
@@ -225,7 +269,9 @@ fn operand<'a>(
         Token::Mark(Mark::Tilde) => led(asked, stack, Prefix::Tilde),
         Token::Mark(Mark::Not) => led(asked, stack, Prefix::Not),
         Token::Joining(Sign::Minus) => led(asked, stack, Prefix::Minus),
-        Token::Quantifier(q) if may_lead(asked, stack.as_slice(), Lead::Binder(q, b"", None)) => Ok(Some(Mode::Naming(q))),
+        Token::Quantifier(q) if may_lead(asked, stack.as_slice(), Lead::Binder(q, b"", None)) => Ok(
+            Some(Mode::Naming(q)),
+        ),
         _ => Ok(None),
     }
 }
@@ -240,7 +286,12 @@ fn name_item(meaning: Option<Term>) -> Item
 }
 
 // A quantifier with its name and sort.
-fn bound<'a>(stack: &mut List<Frame<'a>>, q: Quantifier, name: &'a [u8], s: Option<Sort>) -> Result<Option<Mode<'a>>, NoMemory>
+fn bound<'a>(
+    stack: &mut List<Frame<'a>>,
+    q: Quantifier,
+    name: &'a [u8],
+    s: Option<Sort>,
+) -> Result<Option<Mode<'a>>, NoMemory>
     requires { spec.opened (views.stack stack.old) < NESTING }
     ensures few { OnOk result (length stack.new ≤ length stack.old + 1) }
     ensures state { IfOk result (λ m. views.maybe_state m stack.new ≡ Some (spec.wanting (spec.with_lead (grammar.binder q name.now s) (views.stack stack.old)))) }
@@ -318,7 +369,13 @@ impl From<NoMemory> for Stop {
 }
 
 // The place of the token, where it is a name that means nothing.
-fn unknown_here(names: &Decls, variables: u32, frames: &[Frame], mode: &Mode, p: Placed) -> Option<usize>
+fn unknown_here(
+    names: &Decls,
+    variables: u32,
+    frames: &[Frame],
+    mode: &Mode,
+    p: Placed,
+) -> Option<usize>
     requires few { length frames.now < 2 ^ 31 }
     requires variables { variables < 2 ^ 31 }
     ensures { result ≡ spec.unknown_here (views.scope names.now variables) (views.state mode.now frames.now) (views.token p.entry.token) p.entry.left }
@@ -336,7 +393,14 @@ fn unknown_here(names: &Decls, variables: u32, frames: &[Frame], mode: &Mode, p:
 }
 
 // The first place of a name that means nothing, with this token.
-fn first_unknown(names: &Decls, variables: u32, frames: &[Frame], mode: &Mode, p: Placed, unknown: Option<usize>) -> Option<usize>
+fn first_unknown(
+    names: &Decls,
+    variables: u32,
+    frames: &[Frame],
+    mode: &Mode,
+    p: Placed,
+    unknown: Option<usize>,
+) -> Option<usize>
     requires few { length frames.now < 2 ^ 31 }
     requires variables { variables < 2 ^ 31 }
     ensures { result ≡ grammar.first_of unknown (spec.unknown_here (views.scope names.now variables) (views.state mode.now frames.now) (views.token p.entry.token) p.entry.left) }
@@ -348,7 +412,11 @@ fn first_unknown(names: &Decls, variables: u32, frames: &[Frame], mode: &Mode, p
 }
 
 // The item that ends here.
-fn finished<'a>(alloc: Global, stack: &mut List<Frame<'a>>, mode: Mode<'a>) -> Result<Option<Item>, NoMemory>
+fn finished<'a>(
+    alloc: Global,
+    stack: &mut List<Frame<'a>>,
+    mode: Mode<'a>,
+) -> Result<Option<Item>, NoMemory>
     ensures { IfOk result (λ i. option_map views.item i ≡ spec.finished FORMULA_DEPTH (views.state mode.entry stack.old)) }
 {
     match mode {
@@ -364,7 +432,13 @@ fn finished<'a>(alloc: Global, stack: &mut List<Frame<'a>>, mode: Mode<'a>) -> R
 }
 
 // The item of the tokens and the place of its first name that means nothing, or where the reader stops.
-fn run(alloc: Global, names: &Decls, variables: u32, asked: bool, placed: &[Placed]) -> Result<(Item, Option<usize>), Stop>
+fn run(
+    alloc: Global,
+    names: &Decls,
+    variables: u32,
+    asked: bool,
+    placed: &[Placed],
+) -> Result<(Item, Option<usize>), Stop>
     requires few { length placed.now < 2 ^ 31 }
     requires variables { variables < 2 ^ 31 }
     requires small { views.AreSmall (map views.placed placed.now) }
@@ -385,5 +459,76 @@ fn run(alloc: Global, names: &Decls, variables: u32, asked: bool, placed: &[Plac
     match finished(alloc, &mut stack, mode)? {
         Some(i) => Ok((i, unknown)),
         None => Err(Stop::At(0)),
+    }
+}
+
+/// What stops a reader of a text, with the column, from 1.
+#[derive(Clone, Copy, Debug, PartialEq, Eq)]
+pub enum TextFault {
+    Syntax(usize),
+    Depth(usize),
+    Name(usize),
+    NoMemory,
+}
+
+fn column(bytes: &[u8], left: usize) -> usize
+    requires { length bytes.now < 2 ^ 31 }
+    ensures { result ≡ reading.column_of bytes.now left }
+{
+    (bytes.len() + 1).saturating_sub(left)
+}
+
+fn left_of(placed: &[Placed]) -> usize
+    ensures { result ≡ reading.left_of (map views.placed placed.now) }
+{
+    match placed {
+        [] => 0,
+        [p, ..] => p.left,
+    }
+}
+
+// The levels of the asked form.
+fn levels(asked: bool, i: &Item) -> u32
+    ensures { result ≡ spec.levels_asked FORMULA_DEPTH asked (views.item i.now) }
+{
+    if asked { i.levels } else { height(i) }
+}
+
+fn tree(asked: bool, i: Item) -> Tree
+    ensures { views.tree result ≡ spec.tree_asked asked (views.item i) }
+{
+    if asked {
+        Tree::Term(as_term(i.tree))
+    } else {
+        Tree::Formula(as_formula(i.tree))
+    }
+}
+
+/// The tree of the asked form that the bytes mean, by their tokens.
+pub(crate) fn read(
+    alloc: Global,
+    names: &Decls,
+    variables: u32,
+    asked: bool,
+    bytes: &[u8],
+    placed: &[Placed],
+) -> Result<Tree, TextFault>
+    requires few { length bytes.now < 2 ^ 31 }
+    requires tokens { map views.placed placed.now ≡ scan 0 bytes.now }
+    requires variables { variables < 2 ^ 31 }
+    ensures { views.Reads result (spec.read_bytes NESTING FORMULA_DEPTH asked (views.scope names.now variables) bytes.now) }
+{
+    match run(alloc, names, variables, asked, placed) {
+        Ok((i, unknown)) => {
+            if levels(asked, &i) > FORMULA_DEPTH {
+                return Err(TextFault::Depth(column(bytes, left_of(placed))));
+            }
+            match unknown {
+                Some(left) => Err(TextFault::Name(column(bytes, left))),
+                None => Ok(tree(asked, i)),
+            }
+        }
+        Err(Stop::At(left)) => Err(TextFault::Syntax(column(bytes, left))),
+        Err(Stop::NoMemory) => Err(TextFault::NoMemory),
     }
 }

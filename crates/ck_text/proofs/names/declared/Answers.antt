@@ -1,4 +1,4 @@
-use Rattle.std.proofs.Common.{◌≡◌, ℕ, sym, subst, ap, ◌∙◌, true, false, Bool, List}
+use Rattle.std.proofs.Common.{sym, ap, ◌∙◌}
 use Rattle.std.specs.Str.{bytes_eq}
 use Rattle.ck_text.proofs.Numbers.{found, passed}
 use Rattle.ck_text.proofs.names.declared.Goals as goal

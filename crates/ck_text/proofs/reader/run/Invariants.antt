@@ -7,7 +7,7 @@ use Rattle.ck_text.proofs.reader.run.Given as goal
 abbrev pub invariant-loop-rest : goal.invariant-loop-rest
 invariant-loop-rest l =
     (spec.run NESTING FORMULA_DEPTH l.asked (views.scope l.names l.variables) (map views.placed l.placed) (spec.wanting []) None
-      ≡ spec.run NESTING FORMULA_DEPTH l.asked (views.scope l.names l.variables) (map views.placed l.rest) (views.state l.mode l.stack) l.unknown)
+    ≡ spec.run NESTING FORMULA_DEPTH l.asked (views.scope l.names l.variables) (map views.placed l.rest) (views.state l.mode l.stack) l.unknown)
     × (length l.stack + length l.rest ≤ length l.placed)
     × views.AreSmall (map views.placed l.rest)
     × views.HasRoom (views.state l.mode l.stack)
