@@ -17,3 +17,4 @@ pub mod Numbers
 pub mod Rooms
 pub mod Runs
 pub mod Smalls
+pub mod Nodes

@@ -1,12 +1,12 @@
 -- What holds of the levels of texts, of names that mean nothing, and of the reader over items.
-use Rattle.std.specs.Prelude.{◌≡◌, ◌↔◌, ℕ, Bool, List, Some, is_none}
+use Rattle.std.specs.Prelude.{◌≡◌, ◌↔◌, ℕ, ◌*◌, ◌≤◌, length, Bool, List, Some, is_none}
 use Rattle.std.specs.declared.result.Result.{Result}
 use Rattle.std.specs.List.{list_all}
 use Rattle.sorted_terms.specs.Tree.{TermTree}
-use Rattle.sorted_terms.specs.Sorts.{term_depth}
+use Rattle.sorted_terms.specs.Sorts.{term_depth, term_size}
 use Rattle.formulas.specs.Tree.{FormulaTree}
-use Rattle.formulas.specs.Sorts.{depth}
-use Rattle.ck_text.specs.Texts.{Text, Scope, term_of, formula_of, names_in, is_known}
+use Rattle.formulas.specs.Sorts.{depth, size}
+use Rattle.ck_text.specs.Texts.{Text, tokens, Scope, term_of, formula_of, names_in, is_known}
 use Rattle.ck_text.specs.Reading.{term_levels, formula_levels, unknown_at, Tree, Fault, IsOutcome}
 use Rattle.ck_text.specs.Items.{read_bytes}
 
@@ -17,6 +17,14 @@ TermLevels = (scope : Scope) (a : Text) (t : TermTree) → term_of scope a ≡ S
 -- and of the formula
 abbrev pub FormulaLevels : Type 0
 FormulaLevels = (scope : Scope) (a : Text) (f : FormulaTree) → formula_of scope a ≡ Some f → depth f ≡ formula_levels a
+
+-- a term has no more nodes than its text has tokens
+abbrev pub TermNodes : Type 0
+TermNodes = (scope : Scope) (a : Text) (t : TermTree) → term_of scope a ≡ Some t → term_size t ≤ length (tokens a)
+
+-- a formula has at most twice as many
+abbrev pub FormulaNodes : Type 0
+FormulaNodes = (scope : Scope) (a : Text) (f : FormulaTree) → formula_of scope a ≡ Some f → size f ≤ 2 * length (tokens a)
 
 -- no name is the first that means nothing exactly where each means something
 abbrev pub UnknownNames : Type 0

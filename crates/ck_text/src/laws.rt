@@ -1,7 +1,7 @@
 //! What holds of the reader of terms and formulas: laws that are proved.
 
 ghost use Rattle.ck_text.specs.Laws.{FormulaMeans, OneText, ReadsExactly, TermMeans, TokensAreWritten};
-ghost use Rattle.ck_text.specs.ReadingLaws.{FormulaLevels, OneOutcome, ReadsOutcomes, TermLevels, UnknownNames};
+ghost use Rattle.ck_text.specs.ReadingLaws.{FormulaLevels, FormulaNodes, OneOutcome, ReadsOutcomes, TermLevels, TermNodes, UnknownNames};
 
 /// The reader reads the tokens of every text of the asked form, and no others, and where it stops no text
 /// goes on.
@@ -29,6 +29,12 @@ pub fn tokens_are_written()
 pub fn levels_are_depths()
     ensures term { TermLevels }
     ensures formula { FormulaLevels }
+{}
+
+/// A term has no more nodes than its text has tokens, and a formula at most twice as many.
+pub fn few_nodes()
+    ensures term { TermNodes }
+    ensures formula { FormulaNodes }
 {}
 
 /// There is a first name that means nothing exactly where not each name means something.
