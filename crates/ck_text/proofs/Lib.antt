@@ -18,4 +18,9 @@ pub mod Shown
 pub mod Kept
 pub mod Following
 pub mod Outcomes
+pub mod Values
+pub mod Numbers
+pub mod Rooms
+pub mod Runs
+pub mod Smalls
 pub mod Nodes

@@ -7,3 +7,4 @@ pub mod Laws
 pub mod Reading
 pub mod Items
 pub mod ReadingLaws
+pub mod Views

@@ -8,8 +8,11 @@
 //! `Printers.antt` words for parts of the printer.
 #![tactic(auto)]
 
+pub mod items;
 pub mod laws;
+pub mod names;
 mod printing;
+pub mod reader;
 pub mod token;
 
 pub use printing::{print_formula, print_term};
