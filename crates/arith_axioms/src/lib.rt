@@ -1,0 +1,12 @@
+//! The axioms of arithmetic and of truth values, induction, and terms as polynomials.
+//!
+//! It stands on `formulas`. Its definitions are in `specs/`: the table of the axioms and the induction
+//! form (`Axioms.antt`), and the expansion of a term with its totals (`Polynomials.antt`). That the axioms
+//! and induction forms are true, and that terms with the same totals are equal, are laws of `laws`
+//! (`Laws.antt`).
+#![tactic(auto)]
+
+pub mod factor;
+pub mod laws;
+
+pub use factor::Factor;
