@@ -3,6 +3,15 @@ use Rattle.std.proofs.Common.{◌≡◌, ℕ, zero, suc, ◌+◌, ◌*◌, ◌�
 use Rattle.std.proofs.Math.IntN.{*ℤ_comm, *ℤ-one, zero-*ℤ, *ℤ-zero, suc_ℤ-*ℤ, pred_ℤ-*ℤ}
 use Rattle.std.proofs.lemmas.Int.{ints}
 
+-- One
+
+pub times_one : (a : ℤ) → a *ℤ pos 1 ≡ a
+unfolding lib.IntN.one
+times_one a = *ℤ-one a
+
+pub one_times : (a : ℤ) → pos 1 *ℤ a ≡ a
+one_times a = *ℤ_comm (pos 1) a ∙ times_one a
+
 -- Distribution, by induction on the factor
 
 step_up : (b c p q r p' q' r' : ℤ) → p' ≡ p +ℤ (b +ℤ c) → q' ≡ q +ℤ b → r' ≡ r +ℤ c → p ≡ q +ℤ r → p' ≡ q' +ℤ r'
@@ -49,6 +58,10 @@ associate (negsuc zero) b c =
     ap (λ w. w *ℤ c) (pred_ℤ-*ℤ (pos zero) b) ∙ distribute_left_minus (pos 0 *ℤ b) b c ∙ ap (λ w. w -ℤ b *ℤ c) (ap (λ w. w *ℤ c) (zero-*ℤ b) ∙ zero-*ℤ c ∙ sym (zero-*ℤ (b *ℤ c))) ∙ sym (pred_ℤ-*ℤ (pos zero) (b *ℤ c))
 associate (negsuc (suc n)) b c =
     ap (λ w. w *ℤ c) (pred_ℤ-*ℤ (negsuc n) b) ∙ distribute_left_minus (negsuc n *ℤ b) b c ∙ ap (λ w. w -ℤ b *ℤ c) (associate (negsuc n) b c) ∙ sym (pred_ℤ-*ℤ (negsuc n) (b *ℤ c))
+
+-- the first and second of three factors change places
+pub swap : (a b c : ℤ) → a *ℤ (b *ℤ c) ≡ b *ℤ (a *ℤ c)
+swap a b c = sym (associate a b c) ∙ ap (λ n. n *ℤ c) (*ℤ_comm a b) ∙ associate b a c
 
 -- the second and third of four factors change places
 pub exchange : (a b c d : ℤ) → (a *ℤ b) *ℤ (c *ℤ d) ≡ (a *ℤ c) *ℤ (b *ℤ d)

@@ -1,1 +1,4 @@
 pub mod Integers
+pub mod Truths
+pub mod Expansions
+pub mod Totals

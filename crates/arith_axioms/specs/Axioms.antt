@@ -17,7 +17,6 @@ infix 35 ◌and'◌
 infix 35 ◌or'◌
 infixl 60 ◌+'◌
 infixl 70 ◌*'◌
-
 abbrev pub ◌=>'◌ : FormulaTree → FormulaTree → FormulaTree
 a =>' b = joined implies a b
 
@@ -91,32 +90,32 @@ two_truth_values a = all_bool (all_bool (a (index 1) (index 0)))
 -- The axioms 1 to 26, in this order.
 abbrev pub axioms : List FormulaTree
 axioms =
-    one_integer (λ x. x <=' x) -- 1
-    ∷ three_integers (λ x y z. x <=' y =>' y <=' z =>' x <=' z) -- 2
-    ∷ two_integers (λ x y. x <=' y =>' y <=' x =>' x =' y) -- 3
-    ∷ two_integers (λ x y. x <=' y \/' y <=' x) -- 4
-    ∷ four_integers (λ x y u v. x <=' y =>' u <=' v =>' x +' u <=' y +' v) -- 5
-    ∷ three_integers (λ x y z. 0' <=' z =>' x <=' y =>' x *' z <=' y *' z) -- 6
-    ∷ two_integers (λ x y. x <' y =>' x +' 1' <=' y) -- 7
-    ∷ two_integers (λ x y. x +' 1' <=' y =>' x <' y) -- 8
-    ∷ one_integer (λ x. ~' (x <' x)) -- 9
-    ∷ two_integers (λ x y. ~' (x <=' y) =>' y <' x) -- 10
-    ∷ two_integers (λ x y. ~' (x <' y) =>' y <=' x) -- 11
-    ∷ two_integers (λ x y. x <' y =>' ~' (y <=' x)) -- 12
-    ∷ two_integers (λ x y. x =' y =>' x <=' y) -- 13
-    ∷ two_integers (λ x y. x <' y =>' x <=' y) -- 14
-    ∷ two_integers (λ x y. x *' y =' 0' =>' x =' 0' \/' y =' 0') -- 15
-    ∷ three_integers (λ x y z. x +' z <=' y +' z =>' x <=' y) -- 16
-    ∷ two_integers (λ x y. x =' y =>' y =' x) -- 17
-    ∷ holds (boolean true) -- 18
-    ∷ (~' (holds (boolean false))) -- 19
-    ∷ one_truth_value (λ b. holds (not' b) =>' ~' (holds b)) -- 20
-    ∷ one_truth_value (λ b. ~' (holds b) =>' holds (not' b)) -- 21
-    ∷ two_truth_values (λ a b. holds (a and' b) =>' holds a /\' holds b) -- 22
-    ∷ two_truth_values (λ a b. holds a =>' holds b =>' holds (a and' b)) -- 23
-    ∷ two_truth_values (λ a b. holds (a or' b) =>' holds a \/' holds b) -- 24
-    ∷ two_truth_values (λ a b. holds a =>' holds (a or' b)) -- 25
-    ∷ two_truth_values (λ a b. holds b =>' holds (a or' b)) -- 26
+    one_integer (λ x. x <=' x)  -- 1
+    ∷ three_integers (λ x y z. x <=' y =>' y <=' z =>' x <=' z)  -- 2
+    ∷ two_integers (λ x y. x <=' y =>' y <=' x =>' x =' y)  -- 3
+    ∷ two_integers (λ x y. x <=' y \/' y <=' x)  -- 4
+    ∷ four_integers (λ x y u v. x <=' y =>' u <=' v =>' x +' u <=' y +' v)  -- 5
+    ∷ three_integers (λ x y z. 0' <=' z =>' x <=' y =>' x *' z <=' y *' z)  -- 6
+    ∷ two_integers (λ x y. x <' y =>' x +' 1' <=' y)  -- 7
+    ∷ two_integers (λ x y. x +' 1' <=' y =>' x <' y)  -- 8
+    ∷ one_integer (λ x. ~' (x <' x))  -- 9
+    ∷ two_integers (λ x y. ~' (x <=' y) =>' y <' x)  -- 10
+    ∷ two_integers (λ x y. ~' (x <' y) =>' y <=' x)  -- 11
+    ∷ two_integers (λ x y. x <' y =>' ~' (y <=' x))  -- 12
+    ∷ two_integers (λ x y. x =' y =>' x <=' y)  -- 13
+    ∷ two_integers (λ x y. x <' y =>' x <=' y)  -- 14
+    ∷ two_integers (λ x y. x *' y =' 0' =>' x =' 0' \/' y =' 0')  -- 15
+    ∷ three_integers (λ x y z. x +' z <=' y +' z =>' x <=' y)  -- 16
+    ∷ two_integers (λ x y. x =' y =>' y =' x)  -- 17
+    ∷ holds (boolean true)  -- 18
+    ∷ (~' (holds (boolean false)))  -- 19
+    ∷ one_truth_value (λ b. holds (not' b) =>' ~' (holds b))  -- 20
+    ∷ one_truth_value (λ b. ~' (holds b) =>' holds (not' b))  -- 21
+    ∷ two_truth_values (λ a b. holds (a and' b) =>' holds a /\' holds b)  -- 22
+    ∷ two_truth_values (λ a b. holds a =>' holds b =>' holds (a and' b))  -- 23
+    ∷ two_truth_values (λ a b. holds (a or' b) =>' holds a \/' holds b)  -- 24
+    ∷ two_truth_values (λ a b. holds a =>' holds (a or' b))  -- 25
+    ∷ two_truth_values (λ a b. holds b =>' holds (a or' b))  -- 26
     ∷ []
 
 -- the axiom with a number, counted from 1

@@ -63,33 +63,33 @@ joined_products (f ∷ p) q = with_factor f (joined_products p q)
 -- every coefficient with the other sign
 abbrev pub negated : Polynomial → Polynomial
 negated [] = []
-negated ((c , p) ∷ rest) = (neg_ℤ c , p) ∷ negated rest
+negated ((c, p) ∷ rest) = (neg_ℤ c, p) ∷ negated rest
 
 -- one monomial times each of others
 abbrev pub times_each : ℤ → Product → Polynomial → Polynomial
 times_each c p [] = []
-times_each c p ((d , q) ∷ rest) = (c *ℤ d , joined_products p q) ∷ times_each c p rest
+times_each c p ((d, q) ∷ rest) = (c *ℤ d, joined_products p q) ∷ times_each c p rest
 
 -- each monomial times each of others
 abbrev pub all_pairs : Polynomial → Polynomial → Polynomial
 all_pairs [] others = []
-all_pairs ((c , p) ∷ rest) others = times_each c p others ++ all_pairs rest others
+all_pairs ((c, p) ∷ rest) others = times_each c p others ++ all_pairs rest others
 
 -- The expansion of an integer term: a sum of monomials. A term that is no integer has the expansion 0.
 abbrev pub expansion : TermTree → Polynomial
-expansion (name x) = (pos 1 , Name x ∷ []) ∷ []
-expansion (index k) = (pos 1 , Index k ∷ []) ∷ []
-expansion (integer n) = (n , []) ∷ []
+expansion (name x) = (pos 1, Name x ∷ []) ∷ []
+expansion (index k) = (pos 1, Index k ∷ []) ∷ []
+expansion (integer n) = (n, []) ∷ []
 expansion (unary minus t) = negated (expansion t)
 expansion (binary plus s t) = expansion s ++ expansion t
 expansion (binary difference s t) = expansion s ++ negated (expansion t)
 expansion (binary times s t) = all_pairs (expansion s) (expansion t)
-expansion t = (pos 0 , []) ∷ []
+expansion t = (pos 0, []) ∷ []
 
 -- the sum of the coefficients of a product
 abbrev pub total_in : Polynomial → Product → ℤ
 total_in [] p = pos 0
-total_in ((c , q) ∷ rest) p = if same_product p q then c +ℤ total_in rest p else total_in rest p
+total_in ((c, q) ∷ rest) p = if same_product p q then c +ℤ total_in rest p else total_in rest p
 
 -- the sum of the coefficients of a product in the expansion of a term; 0 where it does not occur
 abbrev pub total : Product → TermTree → ℤ
@@ -102,7 +102,7 @@ IsSamePolynomial s t = (p : Product) → total p s ≡ total p t
 -- the sum of the absolute coefficients
 abbrev pub absolute_sum : Polynomial → ℕ
 absolute_sum [] = 0
-absolute_sum ((c , p) ∷ rest) = unsigned_abs c + absolute_sum rest
+absolute_sum ((c, p) ∷ rest) = unsigned_abs c + absolute_sum rest
 
 -- Values
 
@@ -117,4 +117,4 @@ product_value (f ∷ p) state environment = factor_value f state environment *�
 -- the sum of each coefficient times the value of its product
 abbrev pub polynomial_value : Polynomial → State → Environment → ℤ
 polynomial_value [] state environment = pos 0
-polynomial_value ((c , p) ∷ rest) state environment = c *ℤ product_value p state environment +ℤ polynomial_value rest state environment
+polynomial_value ((c, p) ∷ rest) state environment = c *ℤ product_value p state environment +ℤ polynomial_value rest state environment
