@@ -8,5 +8,6 @@
 
 pub mod factor;
 pub mod laws;
+mod making;
 
 pub use factor::Factor;
