@@ -2,3 +2,6 @@ pub mod Integers
 pub mod Truths
 pub mod Expansions
 pub mod Totals
+pub mod Numbers
+pub mod Next
+pub mod Constants

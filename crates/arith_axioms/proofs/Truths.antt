@@ -12,7 +12,7 @@ use Rattle.formulas.specs.Tree.{FormulaTree}
 use Rattle.formulas.specs.Truth.{Truth, AllTrue}
 use Rattle.formulas.proofs.Substituting.{truth_shift, truth_instance}
 use Rattle.formulas.specs.Substitution.{shift, instance}
-use Rattle.arith_axioms.specs.Axioms.{axioms, axiom_at, induction, next, 0', 1', ◌+'◌}
+use Rattle.arith_axioms.specs.Axioms.{axioms, axiom_at, induction, next_at, 0', 1', ◌+'◌}
 use Rattle.arith_axioms.proofs.Integers.{distribute_left_minus}
 
 -- what is true of every integer, and of every truth value, is true of every value of the sort
@@ -232,13 +232,14 @@ one_of_all (b ∷ formulas) zero a state environment h e = let same : b ≡ a = 
 one_of_all (b ∷ formulas) (suc i) a state environment h e = one_of_all formulas i a state environment h.1 e
 
 pub axiom_true : (i : ℕ) (a : FormulaTree) (state : State) (environment : Environment) → axiom_at i ≡ Some a → Truth a state environment
+unfolding axiom_at
 axiom_true zero a state environment e = absurd (cc)
 axiom_true (suc i) a state environment e = one_of_all axioms i a state environment (all_axioms state environment) e
 
 -- Induction
 
 -- the formula about the next integer is true where the formula is about the integer plus 1
-next_true : (a : FormulaTree) (n : ℤ) (state : State) (environment : Environment) → Truth (next a) state (number n ∷ environment) ≡ Truth a state (number (n +ℤ pos 1) ∷ environment)
+next_true : (a : FormulaTree) (n : ℤ) (state : State) (environment : Environment) → Truth (next_at 0 a) state (number n ∷ environment) ≡ Truth a state (number (n +ℤ pos 1) ∷ environment)
 next_true a n state environment =
     truth_instance (shift a 1 1) (index 0 +' 1') state [] (number n ∷ environment) ∙ truth_shift a state (number (n +ℤ pos 1) ∷ []) (number n ∷ []) environment
 

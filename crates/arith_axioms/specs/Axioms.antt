@@ -2,6 +2,7 @@
 use Rattle.std.specs.Prelude.{ℕ, zero, suc, pos, true, false, List, [], ◌∷◌, Option, None, slice_get}
 use Rattle.ck_base.specs.declared.decl.Sort.TheVariants as sort
 use Rattle.sorted_terms.specs.Tree.{denial, plus, times, equal, less, at_most, both, either, TermTree, index, integer, boolean, unary, binary}
+use Rattle.sorted_terms.specs.Substitution.{shift_term, instance_term}
 use Rattle.formulas.specs.Tree.{implies, and_also, or_else, for_all, FormulaTree, bottom, holds, joined, quantified}
 use Rattle.formulas.specs.Substitution.{shift, instance}
 
@@ -119,15 +120,18 @@ axioms =
     ∷ []
 
 -- the axiom with a number, counted from 1
-abbrev pub axiom_at : ℕ → Option FormulaTree
+unfoldable pub axiom_at : ℕ → Option FormulaTree
 axiom_at zero = None
 axiom_at (suc i) = slice_get axioms i
 
--- the formula about the next integer: x + 1 in place of its variable x
-abbrev pub next : FormulaTree → FormulaTree
-next a = instance (shift a 1 1) (index 0 +' 1') 0
+-- a term and a formula about the next integer: x + 1 in place of the variable x that has the index `at`
+abbrev pub next_term : ℕ → TermTree → TermTree
+next_term at t = instance_term (shift_term t 1 (suc at)) (index 0 +' 1') at
+
+abbrev pub next_at : ℕ → FormulaTree → FormulaTree
+next_at at a = instance (shift a 1 (suc at)) (index 0 +' 1') at
 
 -- The induction form of a formula about one integer variable x, index 0: `A[0] => (all x:int. 0 <= x => A => A') => all x:int. 0 <= x => A`,
 -- where A' is the formula about the next integer.
 abbrev pub induction : FormulaTree → FormulaTree
-induction a = instance a 0' 0 =>' all_int (0' <=' index 0 =>' a =>' next a) =>' all_int (0' <=' index 0 =>' a)
+induction a = instance a 0' 0 =>' all_int (0' <=' index 0 =>' a =>' next_at 0 a) =>' all_int (0' <=' index 0 =>' a)

@@ -1,3 +1,4 @@
 pub mod Axioms
 pub mod Polynomials
+pub mod Computing
 pub mod Laws

@@ -6,8 +6,17 @@
 //! (`Laws.antt`).
 #![tactic(auto)]
 
+pub mod axioms;
+pub mod computing;
 pub mod factor;
+pub mod induction_form;
 pub mod laws;
 mod making;
+pub mod no_compute;
+mod table;
 
+pub use axioms::{axiom, is_axiom};
+pub use computing::{compute, is_closed};
 pub use factor::Factor;
+pub use induction_form::induction;
+pub use no_compute::NoCompute;
