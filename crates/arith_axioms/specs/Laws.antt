@@ -1,5 +1,5 @@
--- The axioms and induction forms are true, and the expansion of a term tells its value.
-use Rattle.std.specs.Prelude.{◌≡◌, ℕ, ◌≤◌, unsigned_abs, List, length, Some}
+-- The axioms, induction forms and computed terms are true, and the expansion of a term tells its value.
+use Rattle.std.specs.Prelude.{◌≡◌, ℕ, ◌≤◌, unsigned_abs, List, length, Some, Ok}
 use Rattle.ck_base.specs.declared.decl.Sort.{Sort}
 use Rattle.ck_base.specs.declared.decl.Sort.TheVariants as sort
 use Rattle.ck_base.specs.declared.decl.Decl.{Decl}
@@ -10,6 +10,7 @@ use Rattle.sorted_terms.specs.Weights.{term_weight, term_expansions}
 use Rattle.formulas.specs.Tree.{FormulaTree, holds}
 use Rattle.formulas.specs.Truth.{Truth}
 use Rattle.arith_axioms.specs.Axioms.{axiom_at, induction}
+use Rattle.arith_axioms.specs.Computing.{computing}
 use Rattle.arith_axioms.specs.Polynomials.{Product, expansion, total, IsSamePolynomial, absolute_sum, polynomial_value}
 
 -- every axiom is true in every state and environment
@@ -22,6 +23,12 @@ AxiomsAreTrue =
 abbrev pub InductionIsTrue : Type 0
 InductionIsTrue =
     (a : FormulaTree) (state : State) (environment : Environment) → Truth (induction a) state environment
+
+-- a term that computing allows is true in every state and environment
+abbrev pub ComputedTermsAreTrue : Type 0
+ComputedTermsAreTrue =
+    (t : TermTree) (state : State) (environment : Environment)
+    → computing t ≡ Ok tt → Truth (holds t) state environment
 
 -- the value of a term as an integer is that of its expansion, in every state and environment
 abbrev pub ExpansionKeepsValue : Type 0

@@ -18,18 +18,23 @@ use std::alloc::Global;
 
 /// The axiom with this number, from 1 to 26; `None` exactly where the table has no such number. `NoMemory`
 /// where memory for a node was refused.
+#[tactic(auto, using(crate::proofs::Numbers::listed_first, crate::proofs::Numbers::listed_last, crate::proofs::Numbers::not_listed))]
 pub fn axiom(alloc: Global, i: u32) -> Result<Option<Formula>, NoMemory>
     ensures { IfOk result (λ o. option_map formula_tree o ≡ axiom_at i) }
 {
+    if !is_axiom(i) {
+        return Ok(None);
+    }
     let make = Maker { alloc };
-    match i {
-        1..=13 => Ok(Some(first_half(make, i)?)),
-        14..=26 => Ok(Some(second_half(make, i)?)),
-        _ => Ok(None),
+    if i <= 13 {
+        Ok(Some(first_half(make, i)?))
+    } else {
+        Ok(Some(second_half(make, i)?))
     }
 }
 
 /// Whether the table of axioms has this number. It takes no memory.
+#[tactic(auto, using(crate::proofs::Numbers::from_one, crate::proofs::Numbers::below_one))]
 pub fn is_axiom(i: u32) -> bool
     ensures { result ≡ is_some (axiom_at i) }
 {

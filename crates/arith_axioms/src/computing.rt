@@ -1,10 +1,10 @@
 //! Truth of a closed term by computing its value.
 
-ghost use Rattle.std.specs.Prelude.{◌≡◌, ◌^◌, ◌<◌, true, []};
-ghost use Rattle.sorted_terms.specs.Tree.{term_tree};
-ghost use Rattle.sorted_terms.specs.Values.{as_number, as_truth, same_value, value};
-ghost use Rattle.sorted_terms.specs.Weights.{is_closed as has_no_variable, term_weight};
-ghost use Rattle.arith_axioms.specs.Computing.{computing, computed_value};
+ghost use Rattle.std.specs.Prelude.{◌≡◌, ◌^◌, ◌+◌, ◌*◌, ◌<◌, unsigned_abs, true, []};
+ghost use Rattle.sorted_terms.specs.Tree.{term_tree, minus, plus, difference, times};
+ghost use Rattle.sorted_terms.specs.Values.{as_number, as_truth, same_value, unary_value, binary_value, value};
+ghost use Rattle.sorted_terms.specs.Weights.{is_closed as has_no_variable};
+ghost use Rattle.arith_axioms.specs.Computing.{computing, computed_value, HasRoom};
 
 use crate::no_compute::NoCompute;
 use sorted_terms::Term;
@@ -12,7 +12,7 @@ use sorted_terms::Term;
 /// Whether the term is true by its value, as a term without names and indices. In this order: `NotClosed`
 /// where it has one, `Wide` where its weight is 2^127 or more, `False` where its value is false. It takes no
 /// memory, and no number that it computes overflows.
-#[tactic(auto, using(crate::proofs::Constants::narrow))]
+#[tactic(auto, using(crate::proofs::Constants::has_room))]
 pub fn compute(t: &Term) -> Result<(), NoCompute>
     ensures { result ≡ computing (term_tree t.now) }
 {
@@ -82,23 +82,56 @@ impl Computed {
             _ => false,
         }
     }
+
+    // The absolute value of the number is below 2^127.
+    #[tactic(auto, using(crate::proofs::Constants::negation_fits))]
+    fn minus(self) -> Computed
+        requires { unsigned_abs (as_number (computed_value self)) < 2 ^ 127 }
+        ensures { computed_value result ≡ unary_value minus (computed_value self) }
+    {
+        Computed::Number(-self.number())
+    }
+
+    // Here and below both numbers together, by the sign between them, are below 2^127.
+    #[tactic(auto, using(crate::proofs::Constants::sum_fits))]
+    fn plus(self, other: Computed) -> Computed
+        requires { unsigned_abs (as_number (computed_value self)) + unsigned_abs (as_number (computed_value other)) < 2 ^ 127 }
+        ensures { computed_value result ≡ binary_value plus (computed_value self) (computed_value other) }
+    {
+        Computed::Number(self.number() + other.number())
+    }
+
+    #[tactic(auto, using(crate::proofs::Constants::difference_fits))]
+    fn less(self, other: Computed) -> Computed
+        requires { unsigned_abs (as_number (computed_value self)) + unsigned_abs (as_number (computed_value other)) < 2 ^ 127 }
+        ensures { computed_value result ≡ binary_value difference (computed_value self) (computed_value other) }
+    {
+        Computed::Number(self.number() - other.number())
+    }
+
+    #[tactic(auto, using(crate::proofs::Constants::product_fits))]
+    fn times(self, other: Computed) -> Computed
+        requires { unsigned_abs (as_number (computed_value self)) * unsigned_abs (as_number (computed_value other)) < 2 ^ 127 }
+        ensures { computed_value result ≡ binary_value times (computed_value self) (computed_value other) }
+    {
+        Computed::Number(self.number() * other.number())
+    }
 }
 
-// The value of a closed term whose weight is below 2^127: no value of a part is above the weight of the part.
+// The value of a term without names and indices, where no number on the way passes 2^127 - 1.
 fn evaluate(t: &Term) -> Computed
-    requires closed { has_no_variable (term_tree t.now) ≡ true }
-    requires narrow { term_weight (term_tree t.now) < 2 ^ 127 }
+    requires { HasRoom (term_tree t.now) }
     ensures { computed_value result ≡ value (term_tree t.now) [] [] }
 {
     match t {
         Term::Var(_) | Term::Bound(_) => unreachable!(),
         Term::Int(n) => Computed::Number(*n),
         Term::Truth(b) => Computed::Truth(*b),
-        Term::Neg(t) => Computed::Number(-evaluate(t).number()),
+        Term::Neg(t) => evaluate(t).minus(),
         Term::Not(t) => Computed::Truth(!evaluate(t).truth()),
-        Term::Add(s, t) => Computed::Number(evaluate(s).number() + evaluate(t).number()),
-        Term::Sub(s, t) => Computed::Number(evaluate(s).number() - evaluate(t).number()),
-        Term::Mul(s, t) => Computed::Number(evaluate(s).number() * evaluate(t).number()),
+        Term::Add(s, t) => evaluate(s).plus(evaluate(t)),
+        Term::Sub(s, t) => evaluate(s).less(evaluate(t)),
+        Term::Mul(s, t) => evaluate(s).times(evaluate(t)),
         Term::Eq(s, t) => Computed::Truth(evaluate(s).same(evaluate(t))),
         Term::Less(s, t) => Computed::Truth(evaluate(s).number() < evaluate(t).number()),
         Term::AtMost(s, t) => Computed::Truth(evaluate(s).number() <= evaluate(t).number()),

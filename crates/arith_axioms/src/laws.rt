@@ -1,7 +1,7 @@
-//! The axioms and induction forms are true, and the expansion of a term tells its value: laws that are
-//! proved.
+//! The axioms, induction forms and computed terms are true, and the expansion of a term tells its value:
+//! laws that are proved.
 
-ghost use Rattle.arith_axioms.specs.Laws.{AxiomsAreTrue, ExpansionKeepsValue, ExpansionLength, InductionIsTrue, SamePolynomialsAreEqual, SamePolynomialsHaveOneValue, WeightBoundsCoefficients, WeightBoundsTotals};
+ghost use Rattle.arith_axioms.specs.Laws.{AxiomsAreTrue, ComputedTermsAreTrue, ExpansionKeepsValue, ExpansionLength, InductionIsTrue, SamePolynomialsAreEqual, SamePolynomialsHaveOneValue, WeightBoundsCoefficients, WeightBoundsTotals};
 
 /// Every axiom is true in every state and environment.
 pub fn axioms_are_true()
@@ -11,6 +11,11 @@ pub fn axioms_are_true()
 /// The induction form of every formula is true in every state and environment.
 pub fn induction_is_true()
     ensures { InductionIsTrue }
+{}
+
+/// A term that `compute` allows is true in every state and environment.
+pub fn computed_terms_are_true()
+    ensures { ComputedTermsAreTrue }
 {}
 
 /// The value of a term as an integer is that of its expansion.

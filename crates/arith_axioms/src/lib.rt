@@ -1,9 +1,9 @@
-//! The axioms of arithmetic and of truth values, induction, and terms as polynomials.
+//! The axioms of arithmetic and of truth values, induction, computing, and terms as polynomials.
 //!
 //! It stands on `formulas`. Its definitions are in `specs/`: the table of the axioms and the induction
-//! form (`Axioms.antt`), and the expansion of a term with its totals (`Polynomials.antt`). That the axioms
-//! and induction forms are true, and that terms with the same totals are equal, are laws of `laws`
-//! (`Laws.antt`).
+//! form (`Axioms.antt`), what computing a term tells (`Computing.antt`), and the expansion of a term with
+//! its totals (`Polynomials.antt`). That axioms, induction forms and computed terms are true, and that terms
+//! with the same totals are equal, are laws of `laws` (`Laws.antt`).
 #![tactic(auto)]
 
 pub mod axioms;
