@@ -1,10 +1,10 @@
 -- The value of a closed term, its parts and its bounds.
-use Rattle.std.proofs.Common.{◌≡◌, ℕ, zero, suc, ◌+◌, ◌*◌, ◌≤◌, ◌<◌, ◌^◌, max, min, nat_le, ℤ, pos, ◌+ℤ◌, ◌-ℤ◌, ◌*ℤ◌, unsigned_abs, FitsSigned, Bool, true, false, ◌&&◌, List, [], arith, subst, sym, ap, ap₂, refl, ◌∙◌, if◌then◌else◌, not, Result, Ok, Err}
+use Rattle.std.proofs.Common.{◌≡◌, ℕ, zero, suc, ◌+◌, ◌*◌, ◌≤◌, ◌<◌, ◌^◌, nat_le, ℤ, pos, ◌+ℤ◌, ◌-ℤ◌, ◌*ℤ◌, unsigned_abs, FitsSigned, Bool, true, false, ◌&&◌, [], arith, subst, sym, ap, ap₂, refl, ◌∙◌, if◌then◌else◌, not, Result, Ok, Err}
 use Rattle.std.proofs.Math.Nat.{mul-le-mul, mul-one, mul_comm, mul-le-mul_left}
 use Rattle.std.proofs.lemmas.Int.{ints, unsigned_abs-mul, fits_signed_from_abs}
 use mir.Syntax.{w128}
 use Rattle.sorted_terms.specs.Tree.{minus, denial, plus, difference, times, equal, less, at_most, both, either, TermTree, name, index, integer, boolean, unary, binary}
-use Rattle.sorted_terms.specs.Values.{Value, as_number, as_truth, State, Environment, unary_value, binary_value, value}
+use Rattle.sorted_terms.specs.Values.{as_truth, State, Environment, unary_value, binary_value, value}
 use Rattle.sorted_terms.specs.Weights.{is_closed, term_weight}
 use Rattle.sorted_terms.proofs.Weighing.{bounded}
 use Rattle.formulas.specs.Tree.{holds}

@@ -1,11 +1,11 @@
 -- The formula about the next integer, index by index, and where no index is that high.
-use Rattle.std.proofs.Common.{◌≡◌, ◌≢◌, ℕ, zero, suc, ◌+◌, ◌-◌, ◌≤◌, ◌<◌, ◌^◌, nat_lt, ◌==◌, Bool, true, false, if◌then◌else◌, ⊎_elim, ◌⊎◌, arith, ap, ap₂, sym, subst, refl, ◌∙◌, ℤ, pos}
+use Rattle.std.proofs.Common.{◌≡◌, ◌≢◌, ℕ, suc, ◌+◌, ◌-◌, ◌≤◌, ◌<◌, ◌^◌, nat_lt, ◌==◌, Bool, true, false, if◌then◌else◌, ⊎_elim, arith, ap, refl, ◌∙◌, ℤ, pos}
 use Rattle.std.proofs.lemmas.Bool.{cases_lt, lt-ltb, le-ltb}
 use Rattle.std.proofs.lemmas.Bool.Decides.{eqb_tells}
-use Rattle.sorted_terms.specs.Tree.{plus, TermTree, name, index, integer, boolean, unary, binary}
+use Rattle.sorted_terms.specs.Tree.{TermTree, name, index, integer, boolean, unary, binary}
 use Rattle.sorted_terms.specs.Substitution.{HasTermIndicesBelow, instance_at, instance_term}
 use Rattle.formulas.specs.Tree.{FormulaTree, bottom, holds, joined, quantified}
-use Rattle.formulas.specs.Substitution.{shift, instance, HasIndicesBelow}
+use Rattle.formulas.specs.Substitution.{instance, HasIndicesBelow}
 use Rattle.formulas.proofs.Places.{shift_past, instance_past}
 use Rattle.arith_axioms.specs.Axioms.{◌+'◌, 1', next_at, next_term}
 

@@ -1,5 +1,5 @@
 -- Which numbers the table of axioms has.
-use Rattle.std.proofs.Common.{◌≡◌, ℕ, zero, suc, ◌≤◌, ◌<◌, ◌&&◌, nat_le, Bool, true, false, List, length, Option, None, Some, slice_get, is_some, arith, ap, sym, refl, ◌∙◌, ⊎_elim}
+use Rattle.std.proofs.Common.{◌≡◌, ℕ, zero, suc, ◌≤◌, ◌<◌, nat_le, Bool, true, false, Option, None, Some, is_some, arith, ap, sym, refl, ◌∙◌, ⊎_elim}
 use Rattle.std.proofs.lemmas.Bool.{cases_lt}
 use Rattle.std.proofs.lemmas.Option.{slice_get_past, slice_get-get_or}
 use Rattle.formulas.specs.Tree.{FormulaTree, bottom}

@@ -1,5 +1,5 @@
 -- Where every total is 0 the value is 0, by taking one product after the other out of the polynomial.
-use Rattle.std.proofs.Common.{◌≡◌, ◌≢◌, ℕ, zero, suc, ◌+◌, ◌==◌, ◌≤◌, ◌⊎◌, ℤ, pos, ◌+ℤ◌, ◌-ℤ◌, ◌*ℤ◌, neg_ℤ, Bool, true, false, ◌&&◌, List, [], ◌∷◌, ◌++◌, length, Some, if◌then◌else◌, arith, subst, sym, ap, ap₂, refl, ◌∙◌, ⊎_elim}
+use Rattle.std.proofs.Common.{◌≡◌, ◌≢◌, ℕ, zero, suc, ◌==◌, ◌≤◌, ℤ, pos, ◌+ℤ◌, ◌*ℤ◌, neg_ℤ, Bool, true, false, ◌&&◌, List, [], ◌∷◌, ◌++◌, length, Some, if◌then◌else◌, arith, subst, sym, ap, ap₂, refl, ◌∙◌, ⊎_elim}
 use Rattle.std.proofs.Math.IntN.{zero-*ℤ}
 use Rattle.std.proofs.lemmas.Int.{ints}
 use Rattle.std.proofs.lemmas.Bool.Decides.{eqb_tells}
@@ -15,7 +15,7 @@ use Rattle.formulas.specs.Tree.{holds}
 use Rattle.formulas.specs.Truth.{Truth}
 use Rattle.arith_axioms.specs.declared.factor.Factor.{Factor}
 use Rattle.arith_axioms.specs.declared.factor.Factor.TheVariants.{Name, Index}
-use Rattle.arith_axioms.specs.Polynomials.{Product, Polynomial, same_factor, same_product, negated, expansion, total_in, total, IsSamePolynomial, product_value, polynomial_value}
+use Rattle.arith_axioms.specs.Polynomials.{Product, Polynomial, same_factor, same_product, negated, expansion, total_in, IsSamePolynomial, product_value, polynomial_value}
 use Rattle.arith_axioms.proofs.Integers.{distribute_left}
 use Rattle.arith_axioms.proofs.Expansions.{appended_value, negated_value, kept}
 

@@ -1,17 +1,16 @@
 -- The axioms are true, one by one, and the induction form by induction on the integer.
 use mathlib.Core.Path.{transport}
-use Rattle.std.proofs.Common.{◌≡◌, ℕ, zero, suc, ◌+◌, ◌*◌, ◌≤◌, ◌⊎◌, ℤ, pos, negsuc, ◌+ℤ◌, ◌-ℤ◌, ◌*ℤ◌, neg_ℤ, unsigned_abs, Bool, true, false, ◌&&◌, ◌||◌, not, List, [], ◌∷◌, Option, Some, None, slice_get, arith, subst, sym, ap, refl, ◌∙◌, ⊎_elim}
+use Rattle.std.proofs.Common.{◌≡◌, ℕ, zero, suc, ◌*◌, ℤ, pos, negsuc, ◌+ℤ◌, ◌-ℤ◌, ◌*ℤ◌, unsigned_abs, Bool, true, false, ◌&&◌, ◌||◌, not, List, [], ◌∷◌, Some, slice_get, arith, subst, sym, ap, refl, ◌∙◌}
 use Rattle.std.proofs.Math.IntN.{pos-*ℤ-pos}
 use Rattle.std.proofs.lemmas.Int.{ints, unsigned_abs-mul}
 use lib.Signed.{lt_z, le_z}
-use Rattle.ck_base.specs.declared.decl.Sort.{Sort}
 use Rattle.ck_base.specs.declared.decl.Sort.TheVariants as sort
-use Rattle.sorted_terms.specs.Tree.{TermTree, index}
-use Rattle.sorted_terms.specs.Values.{Value, number, truth, IsOf, State, Environment, same_integer, value}
+use Rattle.sorted_terms.specs.Tree.{index}
+use Rattle.sorted_terms.specs.Values.{Value, number, truth, IsOf, State, Environment, same_integer}
 use Rattle.formulas.specs.Tree.{FormulaTree}
 use Rattle.formulas.specs.Truth.{Truth, AllTrue}
 use Rattle.formulas.proofs.Substituting.{truth_shift, truth_instance}
-use Rattle.formulas.specs.Substitution.{shift, instance}
+use Rattle.formulas.specs.Substitution.{shift}
 use Rattle.arith_axioms.specs.Axioms.{axioms, axiom_at, induction, next_at, 0', 1', ◌+'◌}
 use Rattle.arith_axioms.proofs.Integers.{distribute_left_minus}
 

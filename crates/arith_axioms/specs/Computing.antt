@@ -1,5 +1,5 @@
 -- Truth of a closed term by computing its value.
-use Rattle.std.specs.Prelude.{ℕ, ◌+◌, ◌*◌, ◌^◌, ◌<◌, nat_le, unsigned_abs, Bool, true, false, not, [], if◌then◌else◌, Result, Ok, Err}
+use Rattle.std.specs.Prelude.{ℕ, ◌+◌, ◌*◌, ◌^◌, ◌<◌, nat_le, unsigned_abs, not, [], if◌then◌else◌, Result, Ok, Err}
 use Rattle.sorted_terms.specs.Tree.{UnarySign, minus, denial, BinarySign, plus, difference, times, TermTree, name, index, integer, boolean, unary, binary}
 use Rattle.sorted_terms.specs.Values.{Value, number, truth, as_number, as_truth, value}
 use Rattle.sorted_terms.specs.Weights.{is_closed, term_weight}

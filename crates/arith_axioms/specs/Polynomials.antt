@@ -1,5 +1,5 @@
 -- Integer terms as polynomials: their expansions, totals, and the order of products.
-use Rattle.std.specs.Prelude.{◌≡◌, ℕ, nat_lt, nat_le, ◌==◌, ℤ, pos, ◌+ℤ◌, ◌*ℤ◌, neg_ℤ, unsigned_abs, ◌+◌, Bool, true, false, ◌&&◌, ◌||◌, List, [], ◌∷◌, ◌++◌, length, if◌then◌else◌}
+use Rattle.std.specs.Prelude.{◌≡◌, ℕ, nat_lt, ◌==◌, ℤ, pos, ◌+ℤ◌, ◌*ℤ◌, neg_ℤ, unsigned_abs, ◌+◌, Bool, true, false, ◌&&◌, ◌||◌, List, [], ◌∷◌, ◌++◌, length, if◌then◌else◌}
 use Rattle.sorted_terms.specs.Tree.{minus, plus, difference, times, TermTree, name, index, integer, unary, binary}
 use Rattle.sorted_terms.specs.Values.{as_number, State, Environment, value_at}
 use Rattle.arith_axioms.specs.declared.factor.Factor.{Factor}

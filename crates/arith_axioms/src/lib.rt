@@ -20,3 +20,6 @@ pub use computing::{compute, is_closed};
 pub use factor::Factor;
 pub use induction_form::induction;
 pub use no_compute::NoCompute;
+
+#[cfg(test)]
+mod tests;
