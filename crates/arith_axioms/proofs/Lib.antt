@@ -5,3 +5,4 @@ pub mod Totals
 pub mod Numbers
 pub mod Next
 pub mod Constants
+pub mod Sorting

@@ -1,5 +1,5 @@
 -- The axioms, induction forms and computed terms are true, and the expansion of a term tells its value.
-use Rattle.std.specs.Prelude.{◌≡◌, ℕ, ◌≤◌, unsigned_abs, List, length, Some, Ok}
+use Rattle.std.specs.Prelude.{◌≡◌, ℕ, ◌≤◌, true, unsigned_abs, List, ◌∷◌, length, Some, Ok}
 use Rattle.ck_base.specs.declared.decl.Sort.{Sort}
 use Rattle.ck_base.specs.declared.decl.Sort.TheVariants as sort
 use Rattle.ck_base.specs.declared.decl.Decl.{Decl}
@@ -9,6 +9,7 @@ use Rattle.sorted_terms.specs.Sorts.{sort_of}
 use Rattle.sorted_terms.specs.Weights.{term_weight, term_expansions}
 use Rattle.formulas.specs.Tree.{FormulaTree, holds}
 use Rattle.formulas.specs.Truth.{Truth}
+use Rattle.formulas.specs.Sorts.{well_sorted}
 use Rattle.arith_axioms.specs.Axioms.{axiom_at, induction}
 use Rattle.arith_axioms.specs.Computing.{computing}
 use Rattle.arith_axioms.specs.Polynomials.{Product, expansion, total, IsSamePolynomial, absolute_sum, polynomial_value}
@@ -23,6 +24,18 @@ AxiomsAreTrue =
 abbrev pub InductionIsTrue : Type 0
 InductionIsTrue =
     (a : FormulaTree) (state : State) (environment : Environment) → Truth (induction a) state environment
+
+-- every axiom is well-sorted, whatever stands around it
+abbrev pub AxiomsAreSorted : Type 0
+AxiomsAreSorted =
+    (names : List Decl) (variables : List Sort) (i : ℕ) (a : FormulaTree)
+    → axiom_at i ≡ Some a → well_sorted names variables a ≡ true
+
+-- the induction form of a formula that is well-sorted under one more integer variable is well-sorted
+abbrev pub InductionKeepsSorts : Type 0
+InductionKeepsSorts =
+    (names : List Decl) (variables : List Sort) (a : FormulaTree)
+    → well_sorted names (sort.Int ∷ variables) a ≡ true → well_sorted names variables (induction a) ≡ true
 
 -- a term that computing allows is true in every state and environment
 abbrev pub ComputedTermsAreTrue : Type 0

@@ -1,11 +1,17 @@
 //! The axioms, induction forms and computed terms are true, and the expansion of a term tells its value:
 //! laws that are proved.
 
-ghost use Rattle.arith_axioms.specs.Laws.{AxiomsAreTrue, ComputedTermsAreTrue, ExpansionKeepsValue, ExpansionLength, InductionIsTrue, SamePolynomialsAreEqual, SamePolynomialsHaveOneValue, WeightBoundsCoefficients, WeightBoundsTotals};
+ghost use Rattle.arith_axioms.specs.Laws.{AxiomsAreSorted, AxiomsAreTrue, ComputedTermsAreTrue, ExpansionKeepsValue, ExpansionLength, InductionIsTrue, InductionKeepsSorts, SamePolynomialsAreEqual, SamePolynomialsHaveOneValue, WeightBoundsCoefficients, WeightBoundsTotals};
 
 /// Every axiom is true in every state and environment.
 pub fn axioms_are_true()
     ensures { AxiomsAreTrue }
+{}
+
+/// Every axiom is well-sorted, and so is the induction form of a formula that is well-sorted about an integer.
+pub fn axioms_are_sorted()
+    ensures table { AxiomsAreSorted }
+    ensures induction { InductionKeepsSorts }
 {}
 
 /// The induction form of every formula is true in every state and environment.
