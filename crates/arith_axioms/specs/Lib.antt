@@ -1,0 +1,4 @@
+pub mod Axioms
+pub mod Polynomials
+pub mod Computing
+pub mod Laws
