@@ -1,9 +1,8 @@
 //! The printed bytes of terms and formulas.
 
-ghost use Rattle.std.specs.Prelude.{◌≡◌, ◌+◌, ◌-◌, ◌<◌, ◌^◌, ◌++◌, List, ℕ, Some, OnOk, OnErr, codes, decimal, slice_get};
+ghost use Rattle.std.specs.Prelude.{◌≡◌, suc, ◌-◌, ◌++◌, List, ℕ, Some, IfOk, OnOk, OnErr, codes, decimal, slice_get};
 ghost use Rattle.sorted_terms.specs.Tree.{term_tree, IsBinary};
 ghost use Rattle.formulas.specs.Tree.{formula_tree, IsJoined};
-ghost use Rattle.formulas.specs.Sorts.{depth};
 ghost use Rattle.ck_base.specs.declared.decl.Decl.{Decl};
 ghost use Rattle.ck_text.specs.Texts.{level as level_of, left_want as left_want_of, right_want as right_want_of, rank};
 ghost use Rattle.ck_text.specs.Printing.{at_level, term_text, formula_text, integer_text, variable_name, name_of, printed, term_bytes, formula_bytes, sign_bytes, sort_bytes};
@@ -30,16 +29,15 @@ pub fn print_term(decls: &Decls, scope: Scope, t: &Term, out: &mut Text) -> Resu
     }
 }
 
-/// Adds the text of the formula, which has less than 2^32 levels, as it stands alone in the scope. Where its
-/// names are declared and its indices are those of variables around, that text means the formula. After
-/// `NoMemory` the text is as before.
+/// Adds the text of the formula, as it stands alone in the scope. Where its names are declared and its
+/// indices are those of variables around, that text means the formula. After `NoMemory` the text is as
+/// before.
 pub fn print_formula(
     decls: &Decls,
     scope: Scope,
     a: &Formula,
     out: &mut Text,
 ) -> Result<(), NoMemory>
-    requires { depth (formula_tree a.now) < 2 ^ 32 }
     ensures ok { OnOk result (out.new ≡ out.old ++ formula_bytes decls.now scope.sorts (formula_tree a.now)) }
     ensures err { OnErr result (out.new ≡ out.old) }
 {
@@ -164,7 +162,6 @@ fn write_formula(
     a: &Formula,
     out: &mut Text,
 ) -> Result<(), NoMemory>
-    requires { around + depth (formula_tree a.now) < 2 ^ 33 }
     ensures ok { OnOk result (out.new ≡ out.old ++ printed (at_level wanted (formula_text decls.now around (formula_tree a.now)))) }
     ensures err { OnErr result (Extends out.old out.new) }
 {
@@ -184,7 +181,6 @@ fn write_bare_formula(
     a: &Formula,
     out: &mut Text,
 ) -> Result<(), NoMemory>
-    requires { around + depth (formula_tree a.now) < 2 ^ 33 }
     ensures ok { OnOk result (out.new ≡ out.old ++ printed (formula_text decls.now around (formula_tree a.now))) }
     ensures err { OnErr result (Extends out.old out.new) }
 {
@@ -203,11 +199,11 @@ fn write_bare_formula(
         }
         Formula::All(sort, part) => {
             write_binder(b"all ", around, *sort, out)?;
-            write_formula(decls, around + 1, QUANTIFIER, part, out)
+            write_formula(decls, inside(around)?, QUANTIFIER, part, out)
         }
         Formula::Ex(sort, part) => {
             write_binder(b"ex ", around, *sort, out)?;
-            write_formula(decls, around + 1, QUANTIFIER, part, out)
+            write_formula(decls, inside(around)?, QUANTIFIER, part, out)
         }
     }
 }
@@ -347,6 +343,13 @@ fn write_binder(word: &[u8], around: u64, sort: Sort, out: &mut Text) -> Result<
         Sort::Int => out.append(b":int. "),
         Sort::Bool => out.append(b":bool. "),
     }
+}
+
+// The number of variables around the part of a quantifier. No memory holds 2^64 levels.
+fn inside(around: u64) -> Result<u64, NoMemory>
+    ensures { IfOk result (λ n. n ≡ suc around) }
+{
+    around.checked_add(1).ok_or(NoMemory)
 }
 
 // The number, from the outside, of the variable with this index.

@@ -6,9 +6,9 @@ ghost use Rattle.cert_codec.specs.Tree.{checked_tree};
 ghost use Rattle.cocktail.specs.Texts.{triple_text, assertion_line};
 
 use cert_codec::{Certificate, Node};
-use ck_base::{NoMemory, Text};
+use ck_base::{Decls, NoMemory, Scope, Text};
+use ck_text::print_formula;
 use formulas::Formula;
-use script_reader::print_formula;
 use std::alloc::Global;
 
 /// The lines of a valid file: the word, the precondition, the program and the postcondition.
@@ -17,20 +17,21 @@ pub fn triple(alloc: Global, c: &Certificate) -> Result<Text, NoMemory>
 {
     let mut text = Text::new(alloc);
     text.append(b"valid\n")?;
-    add_assertion(&c.pre, &mut text)?;
+    add_assertion(&c.decls, &c.pre, &mut text)?;
     match &c.node {
         Node::Skip(_) => text.append(b"skip")?,
     }
     text.append(b"\n")?;
-    add_assertion(&c.post, &mut text)?;
+    add_assertion(&c.decls, &c.post, &mut text)?;
     Ok(text)
 }
 
 // The formula in braces, on a line of its own.
-fn add_assertion(a: &Formula, out: &mut Text) -> Result<(), NoMemory>
-    ensures { OnOk result (out.new ≡ out.old ++ assertion_line (formula_tree a.now)) }
+fn add_assertion(decls: &Decls, a: &Formula, out: &mut Text) -> Result<(), NoMemory>
+    ensures { OnOk result (out.new ≡ out.old ++ assertion_line decls.now (formula_tree a.now)) }
 {
     out.append(b"{ ")?;
-    print_formula(a, out)?;
+    let closed = Scope { sorts: 0, hyps: 0 };
+    print_formula(decls, closed, a, out)?;
     out.append(b" }\n")
 }

@@ -1,16 +1,17 @@
 //! The printed line of the open hole.
 
-ghost use Rattle.std.specs.Prelude.{◌≡◌, ◌+◌, ◌<◌, ◌^◌, ◌++◌, length, map, reverse, decimal, codes, OnOk};
+ghost use Rattle.std.specs.Prelude.{◌≡◌, ◌+◌, ◌<◌, ◌^◌, ◌++◌, length, map, reverse, decimal, codes, [], OnOk};
 ghost use Rattle.formulas.specs.Tree.{formula_tree};
 ghost use Rattle.formulas.specs.Context.{hypotheses_of};
+ghost use Rattle.ck_text.specs.Printing.{formula_bytes};
 ghost use Rattle.derivation.specs.Derivation.{derivation_tree};
 ghost use Rattle.derivation.specs.Derived.{IsKept};
 ghost use Rattle.derivation.specs.Printing.{separator as separator_of, hypotheses_text, gap as gap_of, braced, context_text, program_line, proof_line, open_text};
 
 use crate::derivation::{Derivation, Progress, proof_hole};
-use ck_base::{NoMemory, Text};
+use ck_base::{Decls, NoMemory, Scope, Text};
+use ck_text::print_formula;
 use formulas::{Context, Formula};
-use script_reader::print_formula;
 use std::alloc::Global;
 
 impl Derivation {
@@ -40,9 +41,9 @@ fn print_program(
     out.append(b"  ")?;
     print_number(alloc, 1, out)?;
     out.append(b": ")?;
-    print_braced(pre, out)?;
+    print_braced(alloc, pre, out)?;
     out.append(b" ")?;
-    print_braced(post, out)?;
+    print_braced(alloc, post, out)?;
     out.append(b"\n")
 }
 
@@ -60,7 +61,7 @@ fn print_goal(
     out.append(b": ")?;
     print_context(alloc, context, out)?;
     out.append(b"|- ")?;
-    print_formula(goal, out)?;
+    print_closed(alloc, goal, out)?;
     out.append(b"\n")
 }
 
@@ -74,12 +75,20 @@ fn print_context(alloc: Global, context: &Context, out: &mut Text) -> Result<(),
     out.append(gap(hypotheses))
 }
 
-fn print_braced(a: &Formula, out: &mut Text) -> Result<(), NoMemory>
+fn print_braced(alloc: Global, a: &Formula, out: &mut Text) -> Result<(), NoMemory>
     ensures { OnOk result (out.new ≡ out.old ++ braced (formula_tree a.now)) }
 {
     out.append(b"{ ")?;
-    print_formula(a, out)?;
+    print_closed(alloc, a, out)?;
     out.append(b" }")
+}
+
+// The formula, where no name is declared and no variable in scope.
+fn print_closed(alloc: Global, a: &Formula, out: &mut Text) -> Result<(), NoMemory>
+    ensures { OnOk result (out.new ≡ out.old ++ formula_bytes [] 0 (formula_tree a.now)) }
+{
+    let closed = Scope { sorts: 0, hyps: 0 };
+    print_formula(&Decls::new(alloc), closed, a, out)
 }
 
 fn print_number(alloc: Global, n: u32, out: &mut Text) -> Result<(), NoMemory>
@@ -106,7 +115,7 @@ fn print_hypotheses(
             out.append(b"#")?;
             print_number(alloc, number, out)?;
             out.append(b": ")?;
-            print_formula(a, out)?;
+            print_closed(alloc, a, out)?;
             print_hypotheses(alloc, number + 1, more, out)
         }
     }

@@ -1,7 +1,8 @@
 //! Lines and texts, with values worked out by hand from the grammar.
 
 use super::*;
-use ck_base::{NoMemory, Text};
+use ck_base::{Decls, NoMemory, Scope, Text};
+use ck_text::print_formula;
 use formulas::Formula;
 use proof_terms::Proof;
 use std::alloc::Global;
@@ -16,7 +17,8 @@ const OPENED: Option<OpenHole> = Some(OpenHole {
 /// The formula's text.
 fn printed(alloc: Global, a: &Formula) -> Result<Text, NoMemory> {
     let mut text = Text::new(alloc);
-    print_formula(a, &mut text)?;
+    let closed = Scope { sorts: 0, hyps: 0 };
+    print_formula(&Decls::new(alloc), closed, a, &mut text)?;
     Ok(text)
 }
 
