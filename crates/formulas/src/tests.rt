@@ -1,13 +1,20 @@
-ghost use Rattle.std.specs.Prelude.{◌≡◌, IfOk};
+ghost use Rattle.std.specs.Prelude.{◌≡◌, ◌≤◌, IfOk};
 ghost use Rattle.sorted_terms.specs.Tree.{term_tree, binary, less as less_sign};
-ghost use Rattle.formulas.specs.Tree.{formula_tree, holds};
+ghost use Rattle.ck_base.specs.declared.decl.Sort.TheVariants as sorts;
+ghost use Rattle.formulas.specs.Tree.{formula_tree, holds, quantified, there_is};
 ghost use Rattle.formulas.specs.Substitution.{HasIndicesBelow};
+ghost use Rattle.formulas.specs.Sorts.{size as nodes_of};
 
 use super::*;
 use ck_base::{Decls, List, NoMemory, Sort};
 use sorted_terms::Term;
 use std::alloc::Global;
 use std::test::Fail;
+
+/// Whether that formula was found.
+fn is(found: Formula, wanted: &Formula) -> bool {
+    same(&found, wanted)
+}
 
 /// `s = t`, as a formula.
 fn equation(alloc: Global, s: Term, t: Term) -> Result<Formula, NoMemory> {
@@ -32,7 +39,9 @@ fn less(alloc: Global, s: Term, t: Term) -> Result<Formula, NoMemory>
 
 /// Quantifiers over `Bottom`, without any index.
 fn levels(alloc: Global, count: u32) -> Result<Formula, NoMemory>
-    ensures { IfOk result (λ a. HasIndicesBelow 0 (formula_tree a)) }
+    requires { 1 ≤ count }
+    ensures closed { IfOk result (λ a. HasIndicesBelow 0 (formula_tree a)) }
+    ensures size { IfOk result (λ a. nodes_of (formula_tree a) ≡ count) }
 {
     let mut a = Formula::Bottom;
     for _ in 1..count {
@@ -64,8 +73,7 @@ fn sum(alloc: Global, doublings: u32) -> Result<Term, NoMemory> {
 #[test]
 fn copies(rt: HostRuntime) -> Result<(), Fail> {
     let a = never_three(rt.alloc())?;
-    let copied = copy(rt.alloc(), &a)?;
-    assert!(rt; same(&a, &copied));
+    assert!(rt; is(copy(rt.alloc(), &a)?, &a));
     assert!(rt; !same(&a, &Formula::Bottom));
     Ok(())
 }
@@ -131,38 +139,44 @@ fn fits_after_substitution(rt: HostRuntime) -> Result<(), Fail> {
     Ok(())
 }
 
+/// `ex x, ex y, s < t`.
+fn there_are(alloc: Global, s: Term, t: Term) -> Result<Formula, NoMemory>
+    ensures { IfOk result (λ a. formula_tree a ≡ quantified there_is sorts.Int (quantified there_is sorts.Int (holds (binary less_sign (term_tree s) (term_tree t))))) }
+{
+    let a = less(alloc, s, t)?;
+    let a = Formula::Ex(Sort::Int, Box::new(alloc, a)?);
+    Ok(Formula::Ex(Sort::Int, Box::new(alloc, a)?))
+}
+
+/// Under two quantifiers index 2 is the one that stands for the outermost variable of the body.
 #[test]
 fn substitutes_under_quantifiers(rt: HostRuntime) -> Result<(), Fail> {
     let alloc = rt.alloc();
-    // Under two quantifiers index 2 is the one that stands for the outermost variable of the body.
-    let a = less(alloc, Term::Bound(2), Term::Bound(0))?;
-    let a = Formula::Ex(Sort::Int, Box::new(alloc, a)?);
-    let a = Formula::Ex(Sort::Int, Box::new(alloc, a)?);
-    let instance = instantiate(alloc, &a, &Term::Bound(0), 0)?;
-    assert!(rt; same(&instance, &a));
-
-    let shifted = shift(alloc, &a, 1, 0)?;
-    let wanted = less(alloc, Term::Bound(3), Term::Bound(0))?;
-    let wanted = Formula::Ex(Sort::Int, Box::new(alloc, wanted)?);
-    let wanted = Formula::Ex(Sort::Int, Box::new(alloc, wanted)?);
-    assert!(rt; same(&shifted, &wanted));
-    let Some(back) = unshift(alloc, &shifted)? else {
-        panic!(rt; "nothing");
-    };
-    assert!(rt; same(&back, &a));
+    let a = there_are(alloc, Term::Bound(2), Term::Bound(0))?;
+    assert!(rt; is(instantiate(alloc, &a, &Term::Bound(0), 0)?, &a));
     assert!(rt; unshift(alloc, &a)?.is_none());
+    Ok(())
+}
+
+#[test]
+fn shifts_under_quantifiers(rt: HostRuntime) -> Result<(), Fail> {
+    let alloc = rt.alloc();
+    let a = there_are(alloc, Term::Bound(2), Term::Bound(0))?;
+    let shifted = there_are(alloc, Term::Bound(3), Term::Bound(0))?;
+    assert!(rt; is(shift(alloc, &a, 1, 0)?, &shifted));
+    match unshift(alloc, &shifted)? {
+        Some(back) => assert!(rt; is(back, &a)),
+        None => panic!(rt; "nothing"),
+    }
     Ok(())
 }
 
 #[test]
 fn replaces_under_quantifiers(rt: HostRuntime) -> Result<(), Fail> {
     let alloc = rt.alloc();
-    let a = less(alloc, Term::Var(0), Term::Bound(0))?;
-    let a = Formula::All(Sort::Int, Box::new(alloc, a)?);
-    let replaced = replace_var(alloc, &a, 0, &Term::Bound(0), 0)?;
-    let wanted = less(alloc, Term::Bound(1), Term::Bound(0))?;
-    let wanted = Formula::All(Sort::Int, Box::new(alloc, wanted)?);
-    assert!(rt; same(&replaced, &wanted));
+    let a = there_are(alloc, Term::Var(0), Term::Bound(0))?;
+    let wanted = there_are(alloc, Term::Bound(2), Term::Bound(0))?;
+    assert!(rt; is(replace_var(alloc, &a, 0, &Term::Bound(0), 0)?, &wanted));
     Ok(())
 }
 
@@ -188,14 +202,16 @@ fn goes_deep(rt: HostRuntime) -> Result<(), Fail> {
     let alloc = rt.alloc();
     let a = levels(alloc, 1_024)?;
     let one = Term::Int(1);
+    assert_eq!(rt; size(&a), 1_024);
+    assert_eq!(rt; depth(&a), 1_024);
     assert!(rt; !fits(&a));
     assert!(rt; !fits_instance(&a, &one));
     assert!(rt; !fits_replace(&a, 0, &one));
     assert!(rt; well_sorted(&Decls::new(alloc), &List::new(alloc), &a)?);
-    assert!(rt; same(&a, &copy(alloc, &a)?));
-    assert!(rt; same(&a, &shift(alloc, &a, 1, 0)?));
-    assert!(rt; same(&a, &instantiate(alloc, &a, &one, 0)?));
-    assert!(rt; same(&a, &replace_var(alloc, &a, 0, &one, 0)?));
+    assert!(rt; is(copy(alloc, &a)?, &a));
+    assert!(rt; is(shift(alloc, &a, 1, 0)?, &a));
+    assert!(rt; is(instantiate(alloc, &a, &one, 0)?, &a));
+    assert!(rt; is(replace_var(alloc, &a, 0, &one, 0)?, &a));
     assert!(rt; unshift(alloc, &a)?.is_some());
     Ok(())
 }

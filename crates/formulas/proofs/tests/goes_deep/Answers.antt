@@ -5,10 +5,10 @@ use Rattle.formulas.proofs.Places.{closed_shift, closed_instance, closed_replace
 use Rattle.formulas.proofs.tests.goes_deep.Goals as goal
 
 pub shift-requires : goal.shift-requires
-shift-requires g c = closed_shift (formula_tree c.in_ok-a.a) 1 0 (2 ^ 32) c.in_ok-a.ensures
+shift-requires g c = closed_shift (formula_tree c.in_ok-a.a) 1 0 (2 ^ 32) c.in_ok-a.ensures.closed
 
 pub instantiate-requires : goal.instantiate-requires
-instantiate-requires g c = closed_instance (formula_tree c.in_ok-a.a) (integer (pos 1)) 0 (2 ^ 32) c.in_ok-a.ensures
+instantiate-requires g c = closed_instance (formula_tree c.in_ok-a.a) (integer (pos 1)) 0 (2 ^ 32) c.in_ok-a.ensures.closed
 
 pub replace_var-requires : goal.replace_var-requires
-replace_var-requires g c = closed_replacement (formula_tree c.in_ok-a.a) 0 (integer (pos 1)) 0 (2 ^ 32) c.in_ok-a.ensures tt
+replace_var-requires g c = closed_replacement (formula_tree c.in_ok-a.a) 0 (integer (pos 1)) 0 (2 ^ 32) c.in_ok-a.ensures.closed tt
