@@ -1,5 +1,5 @@
 -- The parts of a proof after filling, and its holes by those of its parts.
-use Rattle.std.proofs.Common.{◌≡◌, ℕ, ◌<◌, List, [], ◌∷◌, ◌++◌, length, map, arith, ap, refl}
+use Rattle.std.proofs.Common.{◌≡◌, ℕ, ◌<◌, ◌≤◌, List, [], ◌∷◌, ◌++◌, length, map, arith, ap, refl}
 use Rattle.std.specs.List.{flat_map}
 use Rattle.std.proofs.lemmas.List.{append-nil}
 use Rattle.proof_terms.proofs.Joined.{joined_nil}
@@ -104,3 +104,27 @@ holes_by_parts (induction a) h = absurd (omega (arith, h))
 holes_by_parts (computing t) h = absurd (omega (arith, h))
 holes_by_parts (ring_equal s t) h = absurd (omega (arith, h))
 holes_by_parts (hole n) h = absurd (omega (arith, h))
+
+pub three_at_most : (p : ProofTree) → length (parts p) ≤ 3
+three_at_most (hypothesis i) = omega arith
+three_at_most (lambda a p) = omega arith
+three_at_most (application p q) = omega arith
+three_at_most (general s p) = omega arith
+three_at_most (special p t) = omega arith
+three_at_most (pair p q) = omega arith
+three_at_most (first p) = omega arith
+three_at_most (second p) = omega arith
+three_at_most (left_of b p) = omega arith
+three_at_most (right_of a p) = omega arith
+three_at_most (by_cases p q r) = omega arith
+three_at_most (pack s a t p) = omega arith
+three_at_most (unpack p q) = omega arith
+three_at_most (from_bottom a p) = omega arith
+three_at_most (stable p) = omega arith
+three_at_most (reflexive t) = omega arith
+three_at_most (rewriting a p q) = omega arith
+three_at_most (an_axiom n) = omega arith
+three_at_most (induction a) = omega arith
+three_at_most (computing t) = omega arith
+three_at_most (ring_equal s t) = omega arith
+three_at_most (hole n) = omega arith

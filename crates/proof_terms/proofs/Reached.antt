@@ -1,11 +1,12 @@
 -- The path of a hole, and filling at it.
-use Rattle.std.proofs.Common.{◌≡◌, ℕ, zero, suc, ◌+◌, ◌<◌, ◌≤◌, List, [], ◌∷◌, ◌++◌, Some, None, length, map, slice_get, set, arith, ap, refl, sym, ◌∙◌, subst}
+use Rattle.std.proofs.Common.{◌≡◌, ℕ, zero, suc, ◌+◌, ◌<◌, ◌≤◌, List, [], ◌∷◌, ◌++◌, Some, None, true, length, map, slice_get, set, arith, ap, refl, sym, ◌∙◌, subst, IsSome, is_some}
 use Rattle.std.proofs.lemmas.Bool.{eq-eqb}
 use Rattle.std.proofs.lemmas.Option.{option_and_then_some, slice_get-map, slice_get_within}
 use Rattle.std.specs.List.{flat_map}
+use Rattle.std.specs.declared.option.Option.{Option}
 use Rattle.std.specs.Option.{option_and_then, option_map, option_map_or}
 use Rattle.proof_terms.proofs.Joined.{times_joined}
-use Rattle.proof_terms.proofs.Parts.{parts_filled, filled_parts, former_parts, holes_by_parts}
+use Rattle.proof_terms.proofs.Parts.{parts_filled, filled_parts, former_parts, holes_by_parts, three_at_most}
 use Rattle.proof_terms.proofs.Filled.{not_filled}
 use Rattle.proof_terms.specs.Tree.{ProofTree, hole}
 use Rattle.proof_terms.specs.Holes.{holes_of, times, hole_count, filled}
@@ -195,3 +196,11 @@ undone p f (i ∷ path) k few e =
           ∙ ap (with_parts (filled p k f)) back
           ∙ former_parts p k f some,
     ))
+
+-- a part has the number 0, 1 or 2
+pub few_numbers : (p : ProofTree) (i : ℕ) (path : List ℕ) → IsSome (at_path p (i ∷ path)) → i < 3
+few_numbers p i path e = numbered (slice_get (parts p) i) refl e
+  where
+    numbered : (o : Option ProofTree) → slice_get (parts p) i ≡ o → is_some (option_and_then (λ q. at_path q path) o) ≡ true → i < 3
+    numbered None h g = absurd (cc)
+    numbered (Some q) h g = let within = slice_get_within (parts p) i q h in let few = three_at_most p in omega (arith, within, few)

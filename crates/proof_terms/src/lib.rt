@@ -14,7 +14,7 @@ pub mod proof;
 mod rules;
 
 pub use copying::copy;
-pub use filling::{fill, unfill, unfill_at};
+pub use filling::{fill, swap_at, unfill};
 pub use measures::{depth, size};
 pub use places::{holes, path_to};
 pub use proof::Proof;
