@@ -1,10 +1,10 @@
 -- The path of a hole, and filling at it.
-use Rattle.std.proofs.Common.{◌≡◌, ℕ, zero, suc, ◌+◌, ◌<◌, ◌≤◌, List, [], ◌∷◌, ◌++◌, Some, None, true, length, map, slice_get, set, arith, ap, refl, sym, ◌∙◌, subst, IsSome, is_some}
+use Rattle.std.proofs.Common.{◌≡◌, ℕ, zero, suc, ◌+◌, ◌<◌, ◌≤◌, List, [], ◌∷◌, ◌++◌, Some, None, true, length, map, slice_get, set, arith, ap, refl, sym, ◌∙◌, subst}
 use Rattle.std.proofs.lemmas.Bool.{eq-eqb}
 use Rattle.std.proofs.lemmas.Option.{option_and_then_some, slice_get-map, slice_get_within}
 use Rattle.std.specs.List.{flat_map}
 use Rattle.std.specs.declared.option.Option.{Option}
-use Rattle.std.specs.Option.{option_and_then, option_map, option_map_or}
+use Rattle.std.specs.Option.{option_and_then, option_map, option_map_or, is_some, IsSome}
 use Rattle.proof_terms.proofs.Joined.{times_joined}
 use Rattle.proof_terms.proofs.Parts.{parts_filled, filled_parts, former_parts, holes_by_parts, three_at_most}
 use Rattle.proof_terms.proofs.Filled.{not_filled}
@@ -123,6 +123,9 @@ leads_to_hole p (i ∷ path) k e =
     let within = one_among_all (parts p) i q k g in
     let same = count_by_parts p k (has_parts p i q g) in
     omega (arith, some, within, same))
+
+pub one_hole : (p : ProofTree) (path : List ℕ) (k : ℕ) → hole_count p k ≤ 1 → at_path p path ≡ Some (hole k) → hole_count p k ≡ 1
+one_hole p path k few e = let some = leads_to_hole p path k e in omega (arith, few, some)
 
 no_further : (k i : ℕ) (path : List ℕ) (p q : ProofTree) → Some p ≡ Some (hole k) → at_path p (i ∷ path) ≡ Some q → ⊥
 no_further k i path p q e h =

@@ -12,6 +12,7 @@ use std::mem;
 
 /// Puts the fragment in the place of hole `k`, which `p` has at most once. Where `p` has no hole `k`, it
 /// stays as it is, and the fragment is handed back. It takes no memory.
+#[tactic(auto, using(crate::proofs::Filled::had_one, crate::proofs::Filled::gave_filled, crate::proofs::Filled::had_none))]
 pub fn fill(p: &mut Proof, k: u32, fragment: Proof) -> Result<(), Proof>
     requires { hole_count (proof_tree p.old) k ≤ 1 }
     ensures had { OnOk result (hole_count (proof_tree p.old) k ≡ 1) }

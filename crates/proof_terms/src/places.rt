@@ -54,6 +54,7 @@ fn add_holes(p: &Proof, found: &mut List<u32>) -> Result<(), NoMemory>
 
 /// The path of hole `k`, which `p` has at most once; `None` exactly where `p` has no hole `k`, and
 /// `NoMemory` where memory for the path was refused.
+#[tactic(auto, using(crate::proofs::Reached::one_hole))]
 pub fn path_to(alloc: Global, p: &Proof, k: u32) -> Result<Option<List<u8>>, NoMemory>
     requires { hole_count (proof_tree p.now) k ≤ 1 }
     ensures path { IfOk result (λ r. IfSome r (λ path. at_path (proof_tree p.now) path ≡ Some (hole k))) }
