@@ -98,7 +98,7 @@ spliced_none k new [] h = refl
 spliced_none k new (n ∷ xs) h =
     ⊎_elim
     (λ (e : (eqb n k ≡ true) × (n ≡ k)). let more : times k (n ∷ xs) ≡ 1 + times k xs = rw e.0 refl in absurd (omega (arith, h, more)))
-    (λ (e : (eqb n k ≡ false) × (n ≡ k → ⊥)). let same : times k (n ∷ xs) ≡ times k xs = rw e.0 refl in rw e.0 (ap (λ ns. n ∷ ns) (spliced_none k new xs (sym same ∙ h))))
+    (λ (e : (eqb n k ≡ false) × (n ≡ k → ⊥)). let same : times k (n ∷ xs) ≡ times k xs = rw e.0 (omega arith) in rw e.0 (ap (λ ns. n ∷ ns) (spliced_none k new xs (sym same ∙ h))))
     (eqb_tells n k)
 
 spliced_here : (k : ℕ) (new xs : List ℕ) → spliced k new (k ∷ xs) ≡ new ++ spliced k new xs
@@ -118,13 +118,15 @@ abbrev pub where_some : ℕ → ProofTree → Option ProofTree
 where_some zero p = None
 where_some (suc n) p = Some p
 
-found_one : (c : ProofTree → ProofTree) (n : ℕ) {o : Option ProofTree} {l : ProofTree} → o ≡ where_some n l → option_map c o ≡ where_some n (c l)
-found_one c zero e = ap (option_map c) e
-found_one c (suc n) e = ap (option_map c) e
+found_one : (c : ProofTree → ProofTree) (n : ℕ) (l : ProofTree) {o : Option ProofTree} → o ≡ where_some n l → option_map c o ≡ where_some n (c l)
+found_one c zero l e = ap (option_map c) e
+found_one c (suc n) l e = ap (option_map c) e
 
 found_two : (c : ProofTree → ProofTree → ProofTree) (p q l m : ProofTree) (x y total : ℕ) {o s : Option ProofTree} → total ≡ x + y → total ≤ 1 → o ≡ where_some x l → s ≡ where_some y m → (x ≡ 0 → l ≡ p) → (y ≡ 0 → m ≡ q) → option_or (option_map (λ z. c z q) o) (option_map (c p) s) ≡ where_some total (c l m)
 found_two c p q l m zero zero total t h e g u v = rw (t, e, g) refl
-found_two c p q l m zero (suc y) total t h e g u v = rw (t, e, g) (ap (λ z. Some (c z m)) (sym (u refl)))
+found_two c p q l m zero (suc y) total t h e g u v =
+    let more : total ≡ suc y = omega (arith, t) in
+    rw (more, e, g) (ap (λ z. Some (c z m)) (sym (u refl)))
 found_two c p q l m (suc x) zero total t h e g u v =
     let more : total ≡ suc x = omega (arith, t) in
     rw (more, e) (ap (λ z. Some (c l z)) (sym (v refl)))
@@ -132,7 +134,9 @@ found_two c p q l m (suc x) (suc y) total t h e g u v = absurd (omega (arith, t,
 
 found_three : (p q r l m n : ProofTree) (x y z total : ℕ) {o s w : Option ProofTree} → total ≡ x + (y + z) → total ≤ 1 → o ≡ where_some x l → s ≡ where_some y m → w ≡ where_some z n → (x ≡ 0 → l ≡ p) → (y ≡ 0 → m ≡ q) → (z ≡ 0 → n ≡ r) → option_or (option_map (λ a. by_cases a q r) o) (option_or (option_map (λ a. by_cases p a r) s) (option_map (by_cases p q) w)) ≡ where_some total (by_cases l m n)
 found_three p q r l m n zero zero zero total t h e f g u v a = rw (t, e, f, g) refl
-found_three p q r l m n zero zero (suc z) total t h e f g u v a = rw (t, e, f, g) (ap Some (three (sym (u refl)) (sym (v refl)) refl))
+found_three p q r l m n zero zero (suc z) total t h e f g u v a =
+    let more : total ≡ suc z = omega (arith, t) in
+    rw (more, e, f, g) (ap Some (three (sym (u refl)) (sym (v refl)) refl))
 found_three p q r l m n zero (suc y) zero total t h e f g u v a =
     let more : total ≡ suc y = omega (arith, t) in
     rw (more, e, f) (ap Some (three (sym (u refl)) refl (sym (a refl))))
@@ -159,20 +163,20 @@ found_hole n k f =
 -- the search fills the one hole, where there is one
 pub found : (p : ProofTree) (k : ℕ) (f : ProofTree) → hole_count p k ≤ 1 → first_filled p k f ≡ where_some (hole_count p k) (filled p k f)
 found (hypothesis i) k f h = refl
-found (lambda a p) k f h = found_one (lambda a) (hole_count p k) (found p k f h)
+found (lambda a p) k f h = found_one (lambda a) (hole_count p k) (filled p k f) (found p k f h)
 found (application p q) k f h = let total = times_joined k (holes_of p) (holes_of q) in found_two (application) p q (filled p k f) (filled q k f) (hole_count p k) (hole_count q k) _ total h (found p k f (less_left _ _ _ total h)) (found q k f (less_right _ _ _ total h)) (not_filled p k f) (not_filled q k f)
-found (general s p) k f h = found_one (general s) (hole_count p k) (found p k f h)
-found (special p t) k f h = found_one (λ l. special l t) (hole_count p k) (found p k f h)
+found (general s p) k f h = found_one (general s) (hole_count p k) (filled p k f) (found p k f h)
+found (special p t) k f h = found_one (λ l. special l t) (hole_count p k) (filled p k f) (found p k f h)
 found (pair p q) k f h = let total = times_joined k (holes_of p) (holes_of q) in found_two (pair) p q (filled p k f) (filled q k f) (hole_count p k) (hole_count q k) _ total h (found p k f (less_left _ _ _ total h)) (found q k f (less_right _ _ _ total h)) (not_filled p k f) (not_filled q k f)
-found (first p) k f h = found_one (first) (hole_count p k) (found p k f h)
-found (second p) k f h = found_one (second) (hole_count p k) (found p k f h)
-found (left_of b p) k f h = found_one (left_of b) (hole_count p k) (found p k f h)
-found (right_of a p) k f h = found_one (right_of a) (hole_count p k) (found p k f h)
+found (first p) k f h = found_one (first) (hole_count p k) (filled p k f) (found p k f h)
+found (second p) k f h = found_one (second) (hole_count p k) (filled p k f) (found p k f h)
+found (left_of b p) k f h = found_one (left_of b) (hole_count p k) (filled p k f) (found p k f h)
+found (right_of a p) k f h = found_one (right_of a) (hole_count p k) (filled p k f) (found p k f h)
 found (by_cases p q r) k f h = let rest = times_joined k (holes_of q) (holes_of r) in let total = times_joined k (holes_of p) (holes_of q ++ holes_of r) in let fewer = less_right _ _ _ total h in found_three p q r (filled p k f) (filled q k f) (filled r k f) (hole_count p k) (hole_count q k) (hole_count r k) _ (total ∙ ap (λ n. hole_count p k + n) rest) h (found p k f (less_left _ _ _ total h)) (found q k f (less_left _ _ _ rest fewer)) (found r k f (less_right _ _ _ rest fewer)) (not_filled p k f) (not_filled q k f) (not_filled r k f)
-found (pack s a t p) k f h = found_one (pack s a t) (hole_count p k) (found p k f h)
+found (pack s a t p) k f h = found_one (pack s a t) (hole_count p k) (filled p k f) (found p k f h)
 found (unpack p q) k f h = let total = times_joined k (holes_of p) (holes_of q) in found_two (unpack) p q (filled p k f) (filled q k f) (hole_count p k) (hole_count q k) _ total h (found p k f (less_left _ _ _ total h)) (found q k f (less_right _ _ _ total h)) (not_filled p k f) (not_filled q k f)
-found (from_bottom a p) k f h = found_one (from_bottom a) (hole_count p k) (found p k f h)
-found (stable p) k f h = found_one (stable) (hole_count p k) (found p k f h)
+found (from_bottom a p) k f h = found_one (from_bottom a) (hole_count p k) (filled p k f) (found p k f h)
+found (stable p) k f h = found_one (stable) (hole_count p k) (filled p k f) (found p k f h)
 found (reflexive t) k f h = refl
 found (rewriting a p q) k f h = let total = times_joined k (holes_of p) (holes_of q) in found_two (rewriting a) p q (filled p k f) (filled q k f) (hole_count p k) (hole_count q k) _ total h (found p k f (less_left _ _ _ total h)) (found q k f (less_right _ _ _ total h)) (not_filled p k f) (not_filled q k f)
 found (an_axiom n) k f h = refl

@@ -13,7 +13,7 @@ pub joined_thrice : (ws xs ys zs : List ℕ) → ((ws ++ xs) ++ ys) ++ zs ≡ ws
 joined_thrice ws xs ys zs = append_assoc (ws ++ xs) ys zs ∙ append_assoc ws xs (ys ++ zs)
 
 pub times_joined : (k : ℕ) (xs ys : List ℕ) → times k (xs ++ ys) ≡ times k xs + times k ys
-times_joined k [] ys = refl
+times_joined k [] ys = omega arith
 times_joined k (x ∷ xs) ys = rw (times_joined k xs ys) (omega arith)
 
 pub no_more : (k : ℕ) (xs ys : List ℕ) → times k xs ≡ 0 → times k ys ≡ 0 → times k (xs ++ ys) ≡ 0
