@@ -185,24 +185,24 @@ found (computing t) k f h = refl
 found (ring_equal s t) k f h = refl
 found (hole n) k f h = found_hole n k f
 
-told_one : (n : ℕ) {l q : ProofTree} → n ≤ 1 → where_some n l ≡ Some q → n ≡ 1
-told_one zero h e = absurd (cc)
-told_one (suc zero) h e = refl
-told_one (suc (suc n)) h e = absurd (omega (arith, h))
+told_one : (n : ℕ) (l : ProofTree) {q : ProofTree} → n ≤ 1 → where_some n l ≡ Some q → n ≡ 1
+told_one zero l h e = absurd (cc)
+told_one (suc zero) l h e = refl
+told_one (suc (suc n)) l h e = absurd (omega (arith, h))
 
 told_which : (n : ℕ) {l q : ProofTree} → where_some n l ≡ Some q → q ≡ l
 told_which zero e = absurd (cc)
 told_which (suc n) e = cc
 
-told_none : (n : ℕ) {l : ProofTree} → where_some n l ≡ None → n ≡ 0
-told_none zero e = refl
-told_none (suc n) e = absurd (cc)
+told_none : (n : ℕ) (l : ProofTree) → where_some n l ≡ None → n ≡ 0
+told_none zero l e = refl
+told_none (suc n) l e = absurd (cc)
 
 pub had_one : (p : ProofTree) (k : ℕ) (f q : ProofTree) → hole_count p k ≤ 1 → first_filled p k f ≡ Some q → hole_count p k ≡ 1
-had_one p k f q few e = told_one (hole_count p k) few (sym (found p k f few) ∙ e)
+had_one p k f q few e = told_one (hole_count p k) (filled p k f) few (sym (found p k f few) ∙ e)
 
 pub gave_filled : (p : ProofTree) (k : ℕ) (f q : ProofTree) → hole_count p k ≤ 1 → first_filled p k f ≡ Some q → q ≡ filled p k f
 gave_filled p k f q few e = told_which (hole_count p k) (sym (found p k f few) ∙ e)
 
 pub had_none : (p : ProofTree) (k : ℕ) (f : ProofTree) → hole_count p k ≤ 1 → first_filled p k f ≡ None → hole_count p k ≡ 0
-had_none p k f few e = told_none (hole_count p k) (sym (found p k f few) ∙ e)
+had_none p k f few e = told_none (hole_count p k) (filled p k f) (sym (found p k f few) ∙ e)
