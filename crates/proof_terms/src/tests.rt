@@ -125,7 +125,7 @@ fn fills_the_hole(rt: HostRuntime) -> Result<(), Fail> {
     let mut p = two_holes(rt.alloc())?;
     assert!(rt; fills(&mut p, 2, Proof::Hole(7)));
     let found = holes(rt.alloc(), &p)?;
-    assert_eq!(rt; found.as_slice(), [1, 7]);
+    assert_eq!(rt; found.as_slice(), [1, 7].as_slice());
     Ok(())
 }
 
@@ -134,7 +134,7 @@ fn hands_back_a_fragment(rt: HostRuntime) -> Result<(), Fail> {
     let mut p = two_holes(rt.alloc())?;
     assert!(rt; is_handed_back(&mut p, 3, 9));
     let found = holes(rt.alloc(), &p)?;
-    assert_eq!(rt; found.as_slice(), [1, 2]);
+    assert_eq!(rt; found.as_slice(), [1, 2].as_slice());
     Ok(())
 }
 
@@ -144,10 +144,10 @@ fn takes_out_what_stands_at_a_path(rt: HostRuntime) -> Result<(), Fail> {
     let Some(path) = path_to(rt.alloc(), &p, 2)? else {
         panic!(rt; "the hole has a path");
     };
-    assert_eq!(rt; path.as_slice(), [1, 1]);
+    assert_eq!(rt; path.as_slice(), [1, 1].as_slice());
     assert!(rt; is_hole(unfill(&mut p, &path, 8), 2));
     let found = holes(rt.alloc(), &p)?;
-    assert_eq!(rt; found.as_slice(), [1, 8]);
+    assert_eq!(rt; found.as_slice(), [1, 8].as_slice());
     Ok(())
 }
 
@@ -158,7 +158,7 @@ fn copies_every_rule(rt: HostRuntime) -> Result<(), Fail> {
     let p = every_rule_beside(rt.alloc(), over)?;
     let copied = copy(rt.alloc(), &p)?;
     let found = holes(rt.alloc(), &copied)?;
-    assert_eq!(rt; found.as_slice(), [5]);
+    assert_eq!(rt; found.as_slice(), [5].as_slice());
     Ok(())
 }
 
@@ -168,7 +168,7 @@ fn goes_deep(rt: HostRuntime) -> Result<(), Fail> {
     assert_eq!(rt; size(&p), 2_048);
     assert_eq!(rt; depth(&p), 2_048);
     let found = holes(rt.alloc(), &p)?;
-    assert_eq!(rt; found.as_slice(), [3]);
+    assert_eq!(rt; found.as_slice(), [3].as_slice());
     let Some(path) = path_to(rt.alloc(), &p, 3)? else {
         panic!(rt; "the hole has a path");
     };
