@@ -1,11 +1,13 @@
 -- From the totals of both expansions, one with the other sign, to what `ring` tells.
-use Rattle.std.proofs.Common.{◌≡◌, ◌≢◌, ℕ, ◌+◌, ◌^◌, ◌<◌, ◌≤◌, ℤ, pos, ◌+ℤ◌, ◌-ℤ◌, neg_ℤ, unsigned_abs, FitsSigned, Bool, true, false, ◌++◌, arith, subst, sym, ap, ap₂, refl, ◌∙◌}
+use Rattle.std.proofs.Common.{◌≡◌, ◌≢◌, ℕ, ◌+◌, ◌^◌, ◌<◌, ◌≤◌, ℤ, pos, ◌+ℤ◌, ◌-ℤ◌, neg_ℤ, unsigned_abs, FitsSigned, Bool, true, false, ◌++◌, ◌↔◌, Result, Ok, Err, IfErr, arith, subst, sym, ap, ap₂, refl, ◌∙◌}
 use Rattle.std.proofs.lemmas.Int.{ints}
 use mir.Syntax.{w128}
 use Rattle.sorted_terms.specs.Tree.{TermTree}
-use Rattle.sorted_terms.specs.Weights.{term_weight}
+use Rattle.sorted_terms.specs.Weights.{term_weight, term_expansions}
+use Rattle.arith_axioms.specs.declared.no_ring.NoRing.{NoRing}
+use Rattle.arith_axioms.specs.declared.no_ring.NoRing.TheVariants.{Wide, Many, Differ, NoMemory}
 use Rattle.arith_axioms.specs.Polynomials.{Product, Polynomial, lower_product, negated, expansion, total_in, total, IsSamePolynomial, absolute_sum}
-use Rattle.arith_axioms.specs.Ring.{AreWithin, IsLeastDifference}
+use Rattle.arith_axioms.specs.Ring.{IsWide, AreMany, AreWithin, IsRingEquation, IsBound, IsLeastDifference}
 use Rattle.arith_axioms.specs.Gathering.{IsZero, IsLeastNonzero}
 use Rattle.arith_axioms.proofs.Constants.{negation_fits}
 use Rattle.arith_axioms.proofs.Expansions.{negated_sum, within_weight, total_within}
@@ -95,3 +97,18 @@ one_difference s t p q a b c d l m =
       sym l.in_left ∙ ap (λ r. total r s) same ∙ m.in_left,
       sym l.in_right ∙ ap (λ r. total r t) same ∙ m.in_right,
     )
+
+-- A bound that is passed allows no equation
+
+pub bound_refuses : (s t : TermTree) (r : Result (Unit {0}) NoRing) → (r ≡ Err Wide ↔ IsWide s t) → ((count : ℕ) → r ≡ Err (Many count) ↔ AreMany s t count) → IfErr r IsBound → IfErr r (λ e. e ≢ NoMemory → IsRingEquation s t → ⊥)
+bound_refuses s t (Ok u) wide many bound = tt
+bound_refuses s t (Err Wide) wide many bound = λ given within. too_wide (wide.0 refl) within.0.room
+  where
+    too_wide : 2 ^ 127 ≤ term_weight s + term_weight t → term_weight s + term_weight t < 2 ^ 127 → ⊥
+    too_wide h k = omega (arith, h, k)
+bound_refuses s t (Err (Many count)) wide many bound = λ given within. too_many ((many count).0 refl) within.0.few
+  where
+    too_many : AreMany s t count → term_expansions s + term_expansions t ≤ 4096 → ⊥
+    too_many h k = omega (arith, h.is, h.above, k)
+bound_refuses s t (Err (Differ p left right)) wide many bound = absurd bound
+bound_refuses s t (Err NoMemory) wide many bound = absurd bound

@@ -18,7 +18,7 @@ pub type Monomial = (i128, List<Factor>);
 /// The expansion of the term, whose weight is below 2^127, with the other sign where `negative` says so;
 /// `NoMemory` where memory was refused.
 pub fn expand(alloc: Global, t: &Term, negative: bool) -> Result<Vec<Monomial>, NoMemory>
-    requires narrow { term_weight (term_tree t.now) < 2 ^ 127 }
+    requires { term_weight (term_tree t.now) < 2 ^ 127 }
     ensures { IfOk result (λ es. es.items ≡ signed negative (expansion (term_tree t.now))) }
 {
     match t {

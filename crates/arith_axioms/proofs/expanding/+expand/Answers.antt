@@ -1,6 +1,7 @@
-use Rattle.std.proofs.Common.{◌≡◌, ◌*◌, ◌^◌, ◌<◌, not, ◌++◌, false, subst, sym, ap, ap₂, ◌∙◌, IfOk}
+use Rattle.std.proofs.Common.{◌≡◌, arith, ◌*◌, ◌^◌, ◌<◌, not, ◌++◌, false, subst, sym, ap, ap₂, ◌∙◌, IfOk}
 use Rattle.sorted_terms.specs.declared.term.Term.{Term}
 use Rattle.sorted_terms.specs.Tree.{term_tree}
+use Rattle.sorted_terms.specs.Sorts.{term_size}
 use Rattle.sorted_terms.specs.Weights.{term_weight}
 use Rattle.arith_axioms.specs.Polynomials.{all_pairs, expansion}
 use Rattle.arith_axioms.specs.Gathering.{signed}
@@ -8,13 +9,23 @@ use Rattle.arith_axioms.proofs.Constants.{left_narrow, right_narrow}
 use Rattle.arith_axioms.proofs.Rooms.{signed_minus, signed_plus, signed_difference, signed_times, expansion_in_order, product_room}
 use Rattle.arith_axioms.proofs.expanding.+expand.Goals as goal
 
-pub expand-requires-in-Mul-clause-narrow : goal.expand-requires-in-Mul-clause-narrow
-expand-requires-in-Mul-clause-narrow t c =
-    subst (λ (x : Term). term_weight (term_tree x) < 2 ^ 127) (sym c.deref-in-Mul.ensures) (left_narrow (term_tree c.in-Mul.s.value) (term_tree c.in-Mul.t.value) (rw c.in-Mul.is at c.requires.narrow))
+pub expand-requires-in-Mul : goal.expand-requires-in-Mul
+expand-requires-in-Mul t c =
+    let smaller : term_size (term_tree c.deref-in-Mul.result.now) < term_size (term_tree c.args.t.now) =
+    subst (λ (x : Term). term_size (term_tree x) < term_size (term_tree c.args.t.now)) (sym c.deref-in-Mul.ensures)
+    (subst (λ (x : Term). term_size (term_tree c.in-Mul.s.value) < term_size (term_tree x)) (sym c.in-Mul.is) (omega arith)) in (
+      omega (arith, c.decreases, smaller),
+      subst (λ (x : Term). term_weight (term_tree x) < 2 ^ 127) (sym c.deref-in-Mul.ensures) (left_narrow (term_tree c.in-Mul.s.value) (term_tree c.in-Mul.t.value) (rw c.in-Mul.is at c.requires)),
+    )
 
-pub expand-requires-in-Mul-2-clause-narrow : goal.expand-requires-in-Mul-2-clause-narrow
-expand-requires-in-Mul-2-clause-narrow t c =
-    subst (λ (x : Term). term_weight (term_tree x) < 2 ^ 127) (sym c.deref-in-Mul-3.ensures) (right_narrow (term_tree c.in-Mul.s.value) (term_tree c.in-Mul.t.value) (rw c.in-Mul.is at c.requires.narrow))
+pub expand-requires-in-Mul-2 : goal.expand-requires-in-Mul-2
+expand-requires-in-Mul-2 t c =
+    let smaller : term_size (term_tree c.deref-in-Mul-3.result.now) < term_size (term_tree c.args.t.now) =
+    subst (λ (x : Term). term_size (term_tree x) < term_size (term_tree c.args.t.now)) (sym c.deref-in-Mul-3.ensures)
+    (subst (λ (x : Term). term_size (term_tree c.in-Mul.t.value) < term_size (term_tree x)) (sym c.in-Mul.is) (omega arith)) in (
+      omega (arith, c.decreases, smaller),
+      subst (λ (x : Term). term_weight (term_tree x) < 2 ^ 127) (sym c.deref-in-Mul-3.ensures) (right_narrow (term_tree c.in-Mul.s.value) (term_tree c.in-Mul.t.value) (rw c.in-Mul.is at c.requires)),
+    )
 
 pub pairs-requires-clause-room : goal.pairs-requires-clause-room
 pairs-requires-clause-room t c =
@@ -23,7 +34,7 @@ pairs-requires-clause-room t c =
     (c.deref-in-Mul-4.ensures.value ∙ c.in_ok-expand-in-Mul-2.ensures)
     (subst (λ (x : Term). term_weight (term_tree x) * term_weight (term_tree c.deref-in-Mul-3.result.now) < 2 ^ 127) (sym c.deref-in-Mul.ensures)
     (subst (λ (y : Term). term_weight (term_tree c.in-Mul.s.value) * term_weight (term_tree y) < 2 ^ 127) (sym c.deref-in-Mul-3.ensures)
-    (rw c.in-Mul.is at c.requires.narrow)))
+    (rw c.in-Mul.is at c.requires)))
 
 pub pairs-requires-clause-left : goal.pairs-requires-clause-left
 pairs-requires-clause-left t c =
