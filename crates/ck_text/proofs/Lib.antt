@@ -24,3 +24,7 @@ pub mod Rooms
 pub mod Runs
 pub mod Smalls
 pub mod Nodes
+pub mod ProofTables
+pub mod ProofStacks
+pub mod ProofKeeping
+pub mod ProofCompleting

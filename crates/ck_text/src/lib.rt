@@ -8,6 +8,7 @@
 //! `Printers.antt` words for parts of the printer.
 #![tactic(auto)]
 
+pub mod head;
 pub mod items;
 pub mod laws;
 pub mod names;
@@ -15,6 +16,7 @@ mod printing;
 pub mod reader;
 pub mod token;
 
+pub use head::Head;
 pub use printing::{print_formula, print_term};
 pub use token::{Mark, Prefix, Quantifier, Sign};
 
