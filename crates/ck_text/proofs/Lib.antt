@@ -28,3 +28,5 @@ pub mod ProofTables
 pub mod ProofStacks
 pub mod ProofKeeping
 pub mod ProofCompleting
+pub mod ProofRereading
+pub mod ProofExactness
