@@ -30,3 +30,4 @@ pub mod ProofKeeping
 pub mod ProofCompleting
 pub mod ProofRereading
 pub mod ProofExactness
+pub mod ProofMeanings

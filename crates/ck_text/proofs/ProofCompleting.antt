@@ -1,16 +1,14 @@
 -- Each state that is reached goes on to a proof: the least argument where one is wanted, and a `)` for each rule.
-use Rattle.std.proofs.Common.{◌≡◌, ℕ, suc, ◌+◌, ◌≤◌, ◌<◌, ◌^◌, Bool, true, false, List, [], ◌∷◌, ◌++◌, length, refl, sym, ap, subst, ◌∙◌, arith, append_assoc, append-nil, Some, None}
+use Rattle.std.proofs.Common.{◌≡◌, ℕ, suc, ◌<◌, Bool, true, false, List, [], ◌∷◌, ◌++◌, length, refl, sym, ap, subst, ◌∙◌, arith, append_assoc, append-nil}
 use Rattle.ck_text.specs.declared.head.Head.{Head}
 use Rattle.ck_text.specs.declared.token.Mark.TheVariants as marks
 use Rattle.ck_text.specs.Tokens.{Token, AreTokens}
 use Rattle.ck_text.specs.Tokens as token
-use Rattle.ck_text.specs.Texts.{Text, tokens, IsText}
 use Rattle.ck_text.specs.Machine as expression
-use Rattle.ck_text.specs.ProofTexts.{Kind, a_sort, a_number, a_term, a_formula, a_proof, kinds, head_word, ProofText, numbered, open_hole, headed, Arguments, last, more, Argument, of_number, of_expression, of_proof, proof_tokens, arguments_tokens, argument_tokens, IsProofText, AreArguments, IsArgument}
-use Rattle.ck_text.specs.ProofMachine.{Frame, calling, State, expecting, marked, opening, within, complete, asked, asks_term, marked_proof, gathered}
-use Rattle.ck_text.proofs.Stacks as inner
+use Rattle.ck_text.specs.ProofTexts.{Kind, a_sort, a_number, a_term, a_formula, a_proof, kinds, head_word, ProofText, numbered, open_hole, headed, Arguments, last, more, Argument, of_expression, of_proof, proof_tokens, arguments_tokens, argument_tokens, IsProofText, AreArguments, IsArgument}
+use Rattle.ck_text.specs.ProofMachine.{Frame, calling, State, expecting, marked, opening, within, complete, asked, asks_term, gathered}
 use Rattle.ck_text.proofs.Completing as inner_completing
-use Rattle.ck_text.proofs.ProofTables.{has_argument, IsProofKind, proof_argument, expression_argument, least, least_is}
+use Rattle.ck_text.proofs.ProofTables.{has_argument, proof_argument, expression_argument, least, least_is}
 use Rattle.ck_text.proofs.ProofStacks.{gathered_are, Sits, Lasts, sits_low, done_front, front, before, closed_front, inner_before}
 
 -- # The least arguments
@@ -76,9 +74,11 @@ module _ (limit most : ℕ) (holes : Bool) where
   plugged_is [] a h i = absurd i
   plugged_is (calling g done k after ∷ stack) a h i =
       plugged_is stack (of_proof (headed g (gathered done (followed a after)))) h.3
-      (proof_argument limit deep holes (length stack) (asked stack) (headed g (gathered done (followed a after))) h.0
-      (omega (arith, h.1), gathered_are limit deep holes (suc (length stack)) (kinds g) done (k ∷ after) (followed a after) h.2
-      (followed_are limit deep holes (suc (length stack)) k after a (omega (arith, h.1)) i)))
+      (proof_argument limit deep holes (length stack) (asked stack) (headed g (gathered done (followed a after))) h.0 (
+        omega (arith, h.1),
+        gathered_are limit deep holes (suc (length stack)) (kinds g) done (k ∷ after) (followed a after) h.2
+            (followed_are limit deep holes (suc (length stack)) k after a (omega (arith, h.1)) i),
+      ))
 
   plugged_tokens : (stack : List Frame) (a : Argument) → Sits limit most deep holes stack → IsArgument limit deep holes (length stack) (asked stack) a
       → proof_tokens (plugged stack a) ≡ front stack (argument_tokens a ++ owed stack)
@@ -86,9 +86,11 @@ module _ (limit most : ℕ) (holes : Bool) where
   plugged_tokens [] a h i = absurd i
   plugged_tokens (calling g done k after ∷ stack) a h i =
       plugged_tokens stack (of_proof (headed g (gathered done (followed a after)))) h.3
-      (proof_argument limit deep holes (length stack) (asked stack) (headed g (gathered done (followed a after))) h.0
-      (omega (arith, h.1), gathered_are limit deep holes (suc (length stack)) (kinds g) done (k ∷ after) (followed a after) h.2
-      (followed_are limit deep holes (suc (length stack)) k after a (omega (arith, h.1)) i)))
+      (proof_argument limit deep holes (length stack) (asked stack) (headed g (gathered done (followed a after))) h.0 (
+        omega (arith, h.1),
+        gathered_are limit deep holes (suc (length stack)) (kinds g) done (k ∷ after) (followed a after) h.2
+            (followed_are limit deep holes (suc (length stack)) k after a (omega (arith, h.1)) i),
+      ))
       ∙ ap (front stack) (sym (ap (λ ts. token.word (head_word g) ∷ token.mark marks.Open ∷ done_front done ts) (followed_front a after (owed stack))
       ∙ closed_front g done (followed a after) (owed stack)))
 
@@ -136,9 +138,11 @@ module _ (limit most : ℕ) (holes : Bool) where
       record {
         argument = of_proof (headed g (followed (least k) after));
         further = token.mark marks.Open ∷ (argument_tokens (least k) ++ owed_here after []);
-        is = proof_argument limit deep holes (length stack) (asked stack) (headed g (followed (least k) after)) h.1
-            (omega (arith, h.2), subst (λ ks. AreArguments limit deep holes (suc (length stack)) ks (followed (least k) after)) (sym same)
-            (followed_are limit deep holes (suc (length stack)) k after (least k) low (least_is limit deep holes (suc (length stack)) k low)));
+        is = proof_argument limit deep holes (length stack) (asked stack) (headed g (followed (least k) after)) h.1 (
+          omega (arith, h.2),
+          subst (λ ks. AreArguments limit deep holes (suc (length stack)) ks (followed (least k) after)) (sym same)
+              (followed_are limit deep holes (suc (length stack)) k after (least k) low (least_is limit deep holes (suc (length stack)) k low)),
+        );
         same = (λ rest. ap (λ ts. front stack (token.word (head_word g) ∷ token.mark marks.Open ∷ (ts ++ rest))) (followed_front (least k) after []));
         are = (tt, joined_are (argument_tokens (least k)) (owed_here after []) (least_are k) (owed_here_are after [] tt));
       }
@@ -176,7 +180,10 @@ module _ (limit most : ℕ) (holes : Bool) where
   pub completed : (st : State) → Lasts limit most (suc most) holes st → Completes st
   completed st h =
       let f = filled st h in
-      let s = stack_sits st h in
-      (plugged (stack_of st) f.argument, f.further ++ owed (stack_of st), plugged_is (stack_of st) f.argument s f.is,
-      f.same (owed (stack_of st)) ∙ sym (plugged_tokens (stack_of st) f.argument s f.is),
-      joined_are f.further (owed (stack_of st)) f.are (owed_are (stack_of st)))
+      let s = stack_sits st h in (
+        plugged (stack_of st) f.argument,
+        f.further ++ owed (stack_of st),
+        plugged_is (stack_of st) f.argument s f.is,
+        f.same (owed (stack_of st)) ∙ sym (plugged_tokens (stack_of st) f.argument s f.is),
+        joined_are f.further (owed (stack_of st)) f.are (owed_are (stack_of st)),
+      )

@@ -3,9 +3,9 @@ use Rattle.std.proofs.Common.{◌≡◌, ℕ, suc, ◌+◌, ◌≤◌, ◌<◌, 
 use Rattle.std.specs.declared.result.Result.{Result}
 use Rattle.std.proofs.lemmas.List.{length-append}
 use Rattle.ck_text.specs.Tokens.{Token}
-use Rattle.ck_text.specs.ProofTexts.{ProofText, Argument, of_proof, proof_tokens, IsProofText, reached}
-use Rattle.ck_text.specs.ProofMachine.{Frame, calling, State, expecting, complete, step, finished, or_fault, after, run, read}
-use Rattle.ck_text.specs.ProofLaws.{BeginsProof, BeginsNoProof, ProofStopsAt, ReadsProofsExactly, OneProof}
+use Rattle.ck_text.specs.ProofTexts.{ProofText, of_proof, proof_tokens, IsProofText, reached}
+use Rattle.ck_text.specs.ProofMachine.{State, expecting, complete, step, finished, or_fault, after, run, read}
+use Rattle.ck_text.specs.ProofLaws.{BeginsProof, ProofStopsAt, ReadsProofsExactly, OneProof}
 use Rattle.ck_text.proofs.ProofStacks.{Lasts, before}
 use Rattle.ck_text.proofs.ProofKeeping.{step_keeps}
 use Rattle.ck_text.proofs.ProofCompleting.{completed}
@@ -105,7 +105,9 @@ module _ (limit most : ℕ) (holes : Bool) where
       inl ((ap (read limit most holes) (sym (append-nil (proof_tokens p))) ∙ r.goes []), (λ n. let k : 0 + reached n p ≤ most = r.low n in omega (arith, k))))
       (λ (s : Stops limit most holes (proof_tokens p) (expecting []) (λ n. 0 + reached n p)).
       inr (record {
-        front = s.front; back = s.back; whole = s.whole;
+        front = s.front;
+        back = s.back;
+        whole = s.whole;
         stops = ap (read limit most holes) (sym (append-nil (proof_tokens p))) ∙ s.stops [] ∙ ap Err (append-nil s.back);
         low = (λ n l. let k : 0 + reached n p ≤ most = s.low n l in omega (arith, k));
         high = (λ n l. let k : most < 0 + reached n p = s.high n l in omega (arith, k));
@@ -149,16 +151,18 @@ module _ (limit most : ℕ) (holes : Bool) where
       → Refuses limit most holes st rest → ProofStopsAt limit most holes front rest
   stops_at st front [] b goes r =
       (b, (λ p h e. apart p [] (sym (whole_read p h) ∙ ap (read limit most holes) (e ∙ sym (append-nil front)) ∙ goes [] ∙ refused st [] r)))
-  stops_at st front (t ∷ rest) b goes r =
-      (b, (λ p more around h e low. no_proof p around st front (t ∷ more) h goes (e ∙ append_assoc front (t ∷ []) more) (refused st (t ∷ more) r)
-      (length (front ++ (t ∷ []))) (omega (arith, length-append front (t ∷ []))) low))
+  stops_at st front (t ∷ rest) b goes r = (
+    b,
+    (λ p more around h e low. no_proof p around st front (t ∷ more) h goes (e ∙ append_assoc front (t ∷ []) more) (refused st (t ∷ more) r)
+        (length (front ++ (t ∷ []))) (omega (arith, length-append front (t ∷ []))) low),
+  )
 
 pub exactly : ReadsProofsExactly
 exactly limit most holes = (
   (λ ts p e. let r = run_is limit most holes ts (expecting []) p tt e in (r.0, sym r.1)),
   (λ p h. whole_read limit most holes p h),
   (λ ts rest e. let s = stopped limit most holes ts (expecting []) rest tt e in
-  (s.taken, s.whole, stops_at limit most holes s.last s.taken rest (begins limit most holes s.last s.taken s.lasts s.next s.goes) s.goes s.refuses)),
+      (s.taken, s.whole, stops_at limit most holes s.last s.taken rest (begins limit most holes s.last s.taken s.lasts s.next s.goes) s.goes s.refuses)),
 )
 
 pub one : OneProof

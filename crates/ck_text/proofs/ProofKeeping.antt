@@ -1,5 +1,5 @@
 -- Each step of the reader of proofs keeps what holds of its stack, and puts the token behind those that were read.
-use Rattle.std.proofs.Common.{◌≡◌, ℕ, suc, ◌+◌, ◌≤◌, ◌<◌, ◌^◌, Bool, true, false, List, [], ◌∷◌, ◌++◌, length, refl, sym, ap, subst, ◌∙◌, arith, append_assoc, append-nil, Option, Some, None, Ok, nat_lt, if◌then◌else◌}
+use Rattle.std.proofs.Common.{◌≡◌, ℕ, suc, ◌≤◌, ◌<◌, ◌^◌, Bool, true, false, List, [], ◌∷◌, ◌++◌, length, refl, sym, ap, subst, ◌∙◌, arith, Option, Some, None, nat_lt, if◌then◌else◌}
 use Rattle.std.specs.Option.{option_map}
 use Rattle.std.proofs.lemmas.Bool.{ltb-true}
 use Rattle.ck_text.specs.declared.head.Head.{Head}
@@ -8,12 +8,12 @@ use Rattle.ck_text.specs.Tokens.{Token}
 use Rattle.ck_text.specs.Tokens as token
 use Rattle.ck_text.specs.Texts.{Text, tokens, IsText}
 use Rattle.ck_text.specs.Machine as expression
-use Rattle.ck_text.specs.ProofTexts.{Kind, a_sort, a_number, a_term, a_formula, a_proof, kinds, head_word, ProofText, numbered, open_hole, headed, Arguments, last, more, Argument, of_sort, of_number, of_expression, of_proof, proof_tokens, IsProofText, IsArgument}
-use Rattle.ck_text.specs.ProofMachine.{Frame, calling, State, expecting, marked, opening, within, complete, asked, asks_term, head_of, guarded, begins_proof, begins, marked_proof, enters, gathered, separated, ends, inside, step, finished, or_fault, after, run}
+use Rattle.ck_text.specs.ProofTexts.{Kind, a_sort, a_number, a_term, a_formula, a_proof, kinds, head_word, headed, last, Argument, of_sort, of_number, of_expression, of_proof, proof_tokens, IsProofText, IsArgument}
+use Rattle.ck_text.specs.ProofMachine.{Frame, calling, State, expecting, marked, opening, within, complete, asked, asks_term, head_of, guarded, begins_proof, begins, marked_proof, enters, gathered, separated, ends, inside, step, after}
 use Rattle.ck_text.proofs.Stacks as inner
 use Rattle.ck_text.proofs.Keeping as inner_keeping
 use Rattle.ck_text.proofs.ProofTables.{head_named, IsProofKind, IsExpressionKind, proof_argument, expression_argument}
-use Rattle.ck_text.proofs.ProofStacks.{AreDone, gathered_are, Sits, Lasts, front, mark_token, before, closed_front, inner_before}
+use Rattle.ck_text.proofs.ProofStacks.{gathered_are, Sits, Lasts, front, mark_token, before, closed_front, inner_before}
 
 guard_passed : (test : Bool) (st next : State) → guarded test st ≡ Some next → (test ≡ true) × (st ≡ next)
 guard_passed true st next e = (refl, cc)
@@ -93,10 +93,14 @@ module _ (limit most deep : ℕ) (holes : Bool) (few : most ≤ deep) where
       goes (complete (calling h done k (l ∷ after) ∷ stack) a) (token.mark marks.Comma) (expecting (calling h (a ∷ done) l after ∷ stack)) next e
       ((c.0.0, c.0.1, (k, c.1, c.0.2), c.0.3), (λ rest. refl))
   separated_keeps (calling h done k [] ∷ stack) a (token.mark marks.Close) next c e =
-      goes (complete (calling h done k [] ∷ stack) a) (token.mark marks.Close) (complete stack (of_proof (headed h (gathered done (last a))))) next e
-      ((c.0.3, proof_argument limit deep holes (length stack) (asked stack) (headed h (gathered done (last a))) c.0.0
-      (omega (arith, c.0.1, few), gathered_are limit deep holes (suc (length stack)) (kinds h) done (k ∷ []) (last a) c.0.2 (refl, c.1))),
-      (λ rest. ap (front stack) (closed_front h done (last a) rest)))
+      goes (complete (calling h done k [] ∷ stack) a) (token.mark marks.Close) (complete stack (of_proof (headed h (gathered done (last a))))) next e (
+        (
+          c.0.3,
+          proof_argument limit deep holes (length stack) (asked stack) (headed h (gathered done (last a))) c.0.0
+              (omega (arith, c.0.1, few), gathered_are limit deep holes (suc (length stack)) (kinds h) done (k ∷ []) (last a) c.0.2 (refl, c.1)),
+        ),
+        (λ rest. ap (front stack) (closed_front h done (last a) rest)),
+      )
   separated_keeps stack a t next c e = absurd (cc)
 
   ends_keeps : (o : Option Text) (st : expression.State) (stack : List Frame) (t : Token) (next : State) → expression.finished st ≡ o → Lasts limit most deep holes (within st stack)
@@ -118,9 +122,10 @@ module _ (limit most deep : ℕ) (holes : Bool) (few : most ≤ deep) where
   step_keeps (expecting stack) t next h e = begins_keeps (asked stack) stack t next refl h e
   step_keeps (marked hole stack) (token.number k) next h e =
       let passed = guard_passed (nat_lt k (2 ^ 32)) (complete stack (of_proof (marked_proof hole k))) next e in
-      subst (λ x. Keeps (marked hole stack) (token.number k) x) passed.1
-      ((h.0, proof_argument limit deep holes (length stack) (asked stack) (marked_proof hole k) h.1 (marked_is hole k (length stack) h.2 h.3 (ltb-true k (2 ^ 32) passed.0))),
-      (λ rest. ap (front stack) (marked_front hole k rest)))
+      subst (λ x. Keeps (marked hole stack) (token.number k) x) passed.1 (
+        (h.0, proof_argument limit deep holes (length stack) (asked stack) (marked_proof hole k) h.1 (marked_is hole k (length stack) h.2 h.3 (ltb-true k (2 ^ 32) passed.0))),
+        (λ rest. ap (front stack) (marked_front hole k rest)),
+      )
   step_keeps (opening g stack) (token.mark marks.Open) next h e = enters_keeps g (kinds g) stack next refl h e
   step_keeps (within st stack) t next h e = inside_keeps (expression.step limit (asks_term (asked stack)) st t) st stack t next refl h e
   step_keeps (complete stack a) t next h e = separated_keeps stack a t next h e

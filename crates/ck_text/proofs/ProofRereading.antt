@@ -1,5 +1,5 @@
 -- The reader of proofs reads every proof from its tokens, or stops before the first of its proofs that is too deep.
-use Rattle.std.proofs.Common.{◌≡◌, ℕ, zero, suc, ◌+◌, ◌-◌, ◌≤◌, ◌<◌, ◌^◌, ◌⊎◌, inl, inr, ⊎_elim, max, Bool, true, false, List, [], ◌∷◌, ◌++◌, length, refl, sym, ap, subst, ◌∙◌, arith, append_assoc, append-nil, Option, Some, None, Ok, Err, nat_lt, if◌then◌else◌}
+use Rattle.std.proofs.Common.{◌≡◌, ℕ, zero, suc, ◌+◌, ◌-◌, ◌≤◌, ◌<◌, ◌^◌, ◌⊎◌, inl, inr, ⊎_elim, Bool, true, false, List, [], ◌∷◌, ◌++◌, length, refl, sym, ap, subst, ◌∙◌, arith, append_assoc, Option, Some, None, Ok, Err}
 use Rattle.std.specs.declared.result.Result.{Result}
 use Rattle.std.specs.Option.{option_map}
 use Rattle.std.proofs.lemmas.Bool.{lt-ltb, le-ltb, cases_lt}
@@ -12,7 +12,7 @@ use Rattle.ck_text.specs.Tokens as token
 use Rattle.ck_text.specs.Texts.{Text, tokens, IsText}
 use Rattle.ck_text.specs.Machine as expression
 use Rattle.ck_text.specs.ProofTexts.{Kind, a_sort, a_number, a_term, a_formula, a_proof, kinds, head_word, ProofText, numbered, open_hole, headed, Arguments, last, more, Argument, of_sort, of_number, of_expression, of_proof, proof_tokens, arguments_tokens, argument_tokens, IsProofText, AreArguments, IsArgument, reached, reached_in_all, reached_in}
-use Rattle.ck_text.specs.ProofMachine.{Frame, calling, State, expecting, marked, opening, within, complete, asked, asks_term, head_of, guarded, begins_proof, marked_proof, enters, gathered, separated, inside, step, after, run}
+use Rattle.ck_text.specs.ProofMachine.{Frame, calling, State, expecting, marked, opening, within, complete, asked, asks_term, guarded, begins_proof, marked_proof, enters, gathered, separated, inside, step, after, run}
 use Rattle.ck_text.proofs.Rereading as inner_rereading
 use Rattle.ck_text.proofs.ProofTables.{head_found, has_argument, IsProofKind, IsExpressionKind}
 
@@ -83,8 +83,10 @@ module _ (limit most : ℕ) (holes : Bool) where
       ⊎_elim (λ (q : Passes us mid to second). inl (both q)) (λ (s : Stops us mid second). inr (later s)) r where
         split : (rest : List Token) → run limit most holes ((ts ++ us) ++ rest) st ≡ run limit most holes (us ++ rest) mid
         split rest = ap (λ x. run limit most holes x st) (append_assoc ts us rest) ∙ p.goes (us ++ rest)
+
         both : Passes us mid to second → Passes (ts ++ us) st to level
         both q = record { goes = (λ rest. split rest ∙ q.goes rest); low = (λ n. j.low n (p.low n) (q.low (n - length ts))) }
+
         later : Stops us mid second → Stops (ts ++ us) st level
         later s = record {
           front = ts ++ s.front;
@@ -219,6 +221,7 @@ module _ (limit most : ℕ) (holes : Bool) where
     low : (n : ℕ) → n ≤ 0 → length stack + reached n p ≤ most
     low zero l = omega (arith, full)
     low (suc n) l = absurd (omega (arith, l))
+
     high : (n : ℕ) → 0 < n → most < length stack + reached n p
     high zero l = absurd (omega (arith, l))
     high (suc n) l = omega (arith, full, some_reached p n)
@@ -271,9 +274,11 @@ module _ (limit most : ℕ) (holes : Bool) where
   } where
     one_less : (n : ℕ) → suc n - 2 ≡ n - 1
     one_less n = omega arith
+
     low : (n : ℕ) → suc around ≤ most → suc around + reached_in_all (n - 2) arguments ≤ most → around + reached n (headed h arguments) ≤ most
     low zero l m = omega (arith, l)
     low (suc n) l m = let k = subst (λ x. suc around + reached_in_all x arguments ≤ most) (one_less n) m in omega (arith, k)
+
     high : (n : ℕ) → 2 < n → most < suc around + reached_in_all (n - 2) arguments → most < around + reached n (headed h arguments)
     high zero l m = absurd (omega (arith, l))
     high (suc n) l m = let k = subst (λ x. most < suc around + reached_in_all x arguments) (one_less n) m in omega (arith, k)
@@ -326,14 +331,19 @@ module _ (limit most : ℕ) (holes : Bool) where
       r.reads later) where
         us : List Token
         us = arguments_tokens others ++ (token.mark marks.Close ∷ [])
+
         to : State
         to = complete stack (of_proof (headed h (gathered done (more a others))))
+
         one_less : (n : ℕ) → n - length (argument_tokens a) - 1 ≡ n - suc (length (argument_tokens a))
         one_less n = omega arith
+
         low_both : (n : ℕ) → suc (length stack) + reached_in n a ≤ most → suc (length stack) + reached_in_all (n - length (argument_tokens a) - 1) others ≤ most → suc (length stack) + reached_in_all n (more a others) ≤ most
         low_both n x y = let z = subst (λ m. suc (length stack) + reached_in_all m others ≤ most) (one_less n) y in omega (arith, x, z)
+
         high_both : (n : ℕ) → length (argument_tokens a) < n → most < suc (length stack) + reached_in_all (n - length (argument_tokens a) - 1) others → most < suc (length stack) + reached_in_all n (more a others)
         high_both n x y = let z = subst (λ m. most < suc (length stack) + reached_in_all m others) (one_less n) y in omega (arith, z)
+
         later : Reads (token.mark marks.Comma ∷ us) r.to to (λ n. suc (length stack) + reached_in_all (n - 1) others)
         later =
             passes_then (token.mark marks.Comma ∷ []) us r.to (expecting (calling h (a ∷ done) l after ∷ stack)) to

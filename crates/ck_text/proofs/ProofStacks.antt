@@ -1,12 +1,12 @@
 -- What holds of the stack of the reader of proofs at each token: it was read by the grammar, and it stands for the tokens that were read.
-use Rattle.std.proofs.Common.{◌≡◌, ℕ, suc, ◌+◌, ◌≤◌, ◌<◌, ◌^◌, Bool, true, false, List, [], ◌∷◌, ◌++◌, length, refl, sym, ap, subst, ◌∙◌, arith, append_assoc, append-nil, Some, None}
+use Rattle.std.proofs.Common.{◌≡◌, ℕ, suc, ◌≤◌, ◌<◌, Bool, true, false, List, [], ◌∷◌, ◌++◌, length, refl, sym, ap, subst, ◌∙◌, arith, append_assoc}
 use Rattle.ck_text.specs.declared.head.Head.{Head}
 use Rattle.ck_text.specs.declared.token.Mark.TheVariants as marks
 use Rattle.ck_text.specs.Tokens.{Token}
 use Rattle.ck_text.specs.Tokens as token
-use Rattle.ck_text.specs.Texts.{Text, tokens, lead_tokens, IsText}
+use Rattle.ck_text.specs.Texts.{tokens, lead_tokens}
 use Rattle.ck_text.specs.Machine as expression
-use Rattle.ck_text.specs.ProofTexts.{Kind, kinds, head_word, ProofText, headed, Arguments, last, more, Argument, of_expression, of_proof, proof_tokens, arguments_tokens, argument_tokens, IsProofText, AreArguments, IsArgument}
+use Rattle.ck_text.specs.ProofTexts.{Kind, kinds, head_word, headed, Arguments, more, Argument, proof_tokens, arguments_tokens, argument_tokens, AreArguments, IsArgument}
 use Rattle.ck_text.specs.ProofMachine.{Frame, calling, State, expecting, marked, opening, within, complete, asked, asks_term, gathered}
 use Rattle.ck_text.proofs.Stacks as inner
 use Rattle.ck_text.proofs.ProofTables.{IsProofKind, IsExpressionKind}

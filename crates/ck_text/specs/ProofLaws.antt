@@ -1,7 +1,8 @@
 -- What holds of the reader of proofs.
-use Rattle.std.specs.Prelude.{◌≡◌, ℕ, ◌≤◌, Bool, List, [], ◌∷◌, ◌++◌, length, Ok, Err}
+use Rattle.std.specs.Prelude.{◌≡◌, ℕ, ◌≤◌, Bool, List, [], ◌∷◌, ◌++◌, length, is_none, Ok, Err}
+use Rattle.std.specs.Option.{is_some}
 use Rattle.ck_text.specs.Tokens.{Token, AreTokens}
-use Rattle.ck_text.specs.ProofTexts.{ProofText, proof_tokens, IsProofText, reached}
+use Rattle.ck_text.specs.ProofTexts.{ProofText, proof_tokens, IsProofText, reached, ProofScope, proof_of, unknown_in_proof}
 use Rattle.ck_text.specs.ProofMachine.{read}
 
 -- Some proof begins with these tokens, and goes on with tokens that can be written. Those of its proofs that begin
@@ -39,3 +40,9 @@ abbrev pub OneProof : Type 0
 OneProof =
     (limit most : ℕ) (holes : Bool) (p q : ProofText)
     → IsProofText limit most holes 0 p → IsProofText limit most holes 0 q → proof_tokens p ≡ proof_tokens q → p ≡ q
+
+-- A proof means a proof term exactly where no name and no `#k` in it is the first that means nothing.
+abbrev pub ProofMeansKnown : Type 0
+ProofMeansKnown =
+    (limit most : ℕ) (holes : Bool) (first : ℕ) (scope : ProofScope) (p : ProofText)
+    → IsProofText limit most holes 0 p → is_some (proof_of scope p) ≡ is_none (unknown_in_proof first scope p)

@@ -1,7 +1,7 @@
 //! What holds of the reader of terms and formulas: laws that are proved.
 
 ghost use Rattle.ck_text.specs.Laws.{FormulaMeans, FormulaReadsBack, FormulaTextIs, FormulaTextMeans, OneText, PrintedScans, ReadsExactly, SortedFormulaHasText, SortedTermHasText, TermMeans, TermReadsBack, TermTextIs, TermTextMeans, TokensAreWritten};
-ghost use Rattle.ck_text.specs.ProofLaws.{OneProof, ReadsProofsExactly};
+ghost use Rattle.ck_text.specs.ProofLaws.{OneProof, ProofMeansKnown, ReadsProofsExactly};
 ghost use Rattle.ck_text.specs.ReadingLaws.{FormulaLevels, FormulaNodes, OneOutcome, ReadsOutcomes, TermLevels, TermNodes, UnknownNames};
 
 /// The reader reads the tokens of every text of the asked form, and no others, and where it stops no text
@@ -82,4 +82,9 @@ pub fn reads_proofs_exactly()
 /// A list of tokens is that of at most one proof.
 pub fn one_proof()
     ensures { OneProof }
+{}
+
+/// A proof means a proof term exactly where no name and no `#k` in it is the first that means nothing.
+pub fn proof_means_by_names()
+    ensures { ProofMeansKnown }
 {}
