@@ -27,3 +27,10 @@ pub mod Runs
 pub mod Smalls
 pub mod Nodes
 pub mod Sizes
+pub mod ProofTables
+pub mod ProofStacks
+pub mod ProofKeeping
+pub mod ProofCompleting
+pub mod ProofRereading
+pub mod ProofExactness
+pub mod ProofMeanings

@@ -8,3 +8,7 @@ pub mod Reading
 pub mod Items
 pub mod ReadingLaws
 pub mod Views
+pub mod ProofTexts
+pub mod ProofMachine
+pub mod ProofLaws
+pub mod ProofReading

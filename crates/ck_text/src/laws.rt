@@ -1,6 +1,7 @@
 //! What holds of the reader of terms and formulas: laws that are proved.
 
 ghost use Rattle.ck_text.specs.Laws.{FormulaMeans, FormulaReadsBack, FormulaTextIs, FormulaTextMeans, OneText, PrintedScans, ReadsExactly, SortedFormulaHasText, SortedTermHasText, TermMeans, TermReadsBack, TermTextIs, TermTextMeans, TokensAreWritten};
+ghost use Rattle.ck_text.specs.ProofLaws.{OneProof, ProofMeansKnown, ReadsProofsExactly};
 ghost use Rattle.ck_text.specs.ReadingLaws.{FormulaLevels, FormulaNodes, OneOutcome, ReadsOutcomes, TermLevels, TermNodes, UnknownNames};
 
 /// The reader reads the tokens of every text of the asked form, and no others, and where it stops no text
@@ -71,4 +72,19 @@ pub fn one_outcome()
 /// The reader over items answers what reading a text comes to, and reading comes to nothing else.
 pub fn reads_outcomes()
     ensures { ReadsOutcomes }
+{}
+
+/// The reader of proofs reads the tokens of every proof, and no others, and where it stops no proof goes on.
+pub fn reads_proofs_exactly()
+    ensures { ReadsProofsExactly }
+{}
+
+/// A list of tokens is that of at most one proof.
+pub fn one_proof()
+    ensures { OneProof }
+{}
+
+/// A proof means a proof term exactly where no name and no `#k` in it is the first that means nothing.
+pub fn proof_means_by_names()
+    ensures { ProofMeansKnown }
 {}

@@ -1,14 +1,16 @@
-//! Texts of terms and formulas: how they are written, and which tree each means.
+//! Texts of terms, formulas and proofs: how they are written, and which tree each means.
 //!
-//! It stands on `formulas`. Its definitions are in `specs/`: the tokens of a text (`Tokens.antt`), written
+//! It stands on `formulas` and `proof_terms`. Its definitions are in `specs/`: the tokens of a text (`Tokens.antt`), written
 //! terms and formulas with the trees that they mean (`Texts.antt`), the texts of trees and their bytes
 //! (`Printing.antt`), what reading bytes comes to, a tree or a fault and its column (`Reading.antt`), and
 //! what is proved of all of them (`Laws.antt`, `ReadingLaws.antt`). `Machine.antt` has the steps of the
 //! reader over tokens, `Items.antt` the same steps over what the reader keeps of each text, and
-//! `Printers.antt` words for parts of the printer.
+//! `Printers.antt` words for parts of the printer. Proofs have definitions of their own (`ProofTexts.antt`,
+//! `ProofReading.antt`, `ProofMachine.antt`, `ProofLaws.antt`); no code reads or prints them yet.
 #![tactic(auto)]
 
 mod digits;
+pub mod head;
 mod items;
 pub mod laws;
 mod names;
@@ -19,6 +21,7 @@ mod scan;
 mod text_fault;
 pub mod token;
 
+pub use head::Head;
 pub use printing::{print_formula, print_term};
 pub use reading::{read_formula, read_term};
 pub use text_fault::TextFault;
