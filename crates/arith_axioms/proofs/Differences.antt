@@ -1,5 +1,5 @@
 -- From the totals of both expansions, one with the other sign, to what `ring` tells.
-use Rattle.std.proofs.Common.{◌≡◌, ◌≢◌, ℕ, ◌+◌, ◌^◌, ◌<◌, ◌≤◌, ℤ, pos, ◌+ℤ◌, ◌-ℤ◌, neg_ℤ, unsigned_abs, FitsSigned, Bool, true, false, ◌++◌, ◌↔◌, Result, Ok, Err, IfErr, arith, subst, sym, ap, ap₂, refl, ◌∙◌}
+use Rattle.std.proofs.Common.{◌≡◌, ◌≢◌, ℕ, ◌+◌, ◌^◌, ◌<◌, ◌≤◌, ℤ, pos, ◌+ℤ◌, ◌-ℤ◌, neg_ℤ, FitsSigned, Bool, true, false, ◌++◌, ◌↔◌, Result, Ok, Err, IfErr, arith, subst, sym, ap, ap₂, refl, ◌∙◌}
 use Rattle.std.proofs.lemmas.Int.{ints}
 use mir.Syntax.{w128}
 use Rattle.sorted_terms.specs.Tree.{TermTree}

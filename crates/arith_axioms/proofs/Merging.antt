@@ -1,5 +1,5 @@
 -- Joining two products in order: the first factor of the joined one, and its order.
-use Rattle.std.proofs.Common.{◌≡◌, ℤ, Bool, true, false, [], ◌∷◌, ◌++◌, if◌then◌else◌, sym, ap, refl, ◌∙◌}
+use Rattle.std.proofs.Common.{◌≡◌, ℤ, Bool, true, false, [], ◌∷◌, ◌++◌, if◌then◌else◌, ap, refl, ◌∙◌}
 use Rattle.sorted_terms.specs.Tree.{minus, denial, plus, difference, times, equal, less, at_most, both, either, TermTree, name, index, integer, boolean, unary, binary}
 use Rattle.arith_axioms.specs.declared.factor.Factor.{Factor}
 use Rattle.arith_axioms.specs.Polynomials.{Product, Polynomial, lower_factor, with_factor, joined_products, negated, times_each, all_pairs, expansion}

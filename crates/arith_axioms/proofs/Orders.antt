@@ -1,5 +1,5 @@
 -- Factors and products stand in a strict order, in which any two that are not the same compare.
-use Rattle.std.proofs.Common.{◌≡◌, ℕ, suc, ◌==◌, nat_lt, ◌<◌, ◌≤◌, Bool, true, false, ◌&&◌, ◌||◌, [], ◌∷◌, length, if◌then◌else◌, arith, subst, sym, ap, ap₂, refl, ◌∙◌}
+use Rattle.std.proofs.Common.{◌≡◌, ℕ, ◌==◌, nat_lt, ◌<◌, ◌≤◌, Bool, true, false, ◌&&◌, ◌||◌, [], ◌∷◌, length, if◌then◌else◌, arith, subst, sym, ap, ap₂, refl, ◌∙◌}
 use Rattle.std.proofs.lemmas.Bool.Decides.{nat_tests}
 use Rattle.arith_axioms.specs.declared.factor.Factor.{Factor}
 use Rattle.arith_axioms.specs.declared.factor.Factor.TheVariants.{Name, Index}

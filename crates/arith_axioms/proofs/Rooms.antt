@@ -1,5 +1,5 @@
 -- The expansion of a term, with or without the other sign: its parts, its room and its order.
-use Rattle.std.proofs.Common.{◌≡◌, ℕ, ◌*◌, ◌+◌, ◌^◌, ◌<◌, ◌≤◌, ℤ, pos, negsuc, zero, suc, ◌*ℤ◌, neg_ℤ, Bool, true, false, not, [], ◌∷◌, ◌++◌, arith, subst, sym, ap, ap₂, refl, ◌∙◌}
+use Rattle.std.proofs.Common.{◌≡◌, ℕ, ◌*◌, ◌^◌, ◌<◌, ◌≤◌, ℤ, neg_ℤ, Bool, true, false, not, [], ◌∷◌, ◌++◌, arith, subst, sym, ap, ap₂, refl, ◌∙◌}
 use Rattle.std.proofs.Math.Nat.{mul-le-mul}
 use Rattle.std.proofs.lemmas.Int.{ints}
 use Rattle.sorted_terms.specs.Tree.{minus, plus, difference, times, TermTree, unary, binary}

@@ -1,5 +1,5 @@
 -- In a polynomial whose products do not fall the monomials of one product stand side by side.
-use Rattle.std.proofs.Common.{◌≡◌, ◌≢◌, ℕ, zero, suc, ◌+◌, ◌<◌, ◌≤◌, ℤ, pos, negsuc, ◌+ℤ◌, ◌-ℤ◌, unsigned_abs, Bool, true, false, List, [], ◌∷◌, length, map, get_or, if◌then◌else◌, arith, subst, sym, ap, ap₂, refl, ◌∙◌, IsPermutation, Bor}
+use Rattle.std.proofs.Common.{◌≡◌, ℕ, suc, ◌+◌, ◌<◌, ◌≤◌, ℤ, pos, negsuc, ◌+ℤ◌, ◌-ℤ◌, unsigned_abs, Bool, true, false, List, [], ◌∷◌, length, map, get_or, if◌then◌else◌, arith, subst, sym, ap, ap₂, refl, ◌∙◌, IsPermutation, Bor}
 use Rattle.std.specs.List.{sum_by}
 use Rattle.std.proofs.lemmas.Int.{ints}
 use Rattle.std.proofs.lemmas.List.Sums.{sum_by-cons}

@@ -1,12 +1,12 @@
 -- Axioms and induction forms are well-sorted.
-use Rattle.std.proofs.Common.{◌≡◌, ℕ, zero, suc, true, ◌&&◌, List, [], ◌∷◌, Option, Some, None, slice_get, subst, refl, ◌∙◌, sym}
+use Rattle.std.proofs.Common.{◌≡◌, ℕ, zero, suc, true, List, [], ◌∷◌, Some, slice_get, subst, refl, ◌∙◌}
 use Rattle.ck_base.specs.declared.decl.Sort.{Sort}
 use Rattle.ck_base.specs.declared.decl.Sort.TheVariants as sort
 use Rattle.ck_base.specs.declared.decl.Decl.{Decl}
 use Rattle.sorted_terms.specs.Tree.{index}
 use Rattle.formulas.specs.Tree.{FormulaTree}
 use Rattle.formulas.specs.Sorts.{well_sorted}
-use Rattle.formulas.specs.Substitution.{shift, instance}
+use Rattle.formulas.specs.Substitution.{shift}
 use Rattle.formulas.proofs.Substituting.{sorted_shift, sorted_instance}
 use Rattle.arith_axioms.specs.Axioms.{axioms, axiom_at, induction, next_at, 0', 1', ◌+'◌}
 

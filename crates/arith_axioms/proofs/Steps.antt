@@ -1,9 +1,9 @@
 -- One turn of each loop over a list: its first item is taken away.
-use Rattle.std.proofs.Common.{◌≡◌, ◌≢◌, ℕ, suc, ◌+◌, ◌-◌, ◌*◌, ◌^◌, ◌<◌, ◌≤◌, ℤ, pos, ◌+ℤ◌, ◌*ℤ◌, unsigned_abs, Bool, true, false, List, [], ◌∷◌, ◌++◌, length, map, get_or, take, drop, if◌then◌else◌, arith, subst, sym, ap, ap₂, refl, ◌∙◌, append_assoc, ◌⊎◌, ⊎_elim, inl, inr, Bor}
+use Rattle.std.proofs.Common.{◌≡◌, ◌≢◌, ℕ, suc, ◌+◌, ◌-◌, ◌*◌, ◌^◌, ◌<◌, ◌≤◌, ℤ, pos, ◌+ℤ◌, ◌*ℤ◌, unsigned_abs, true, false, List, [], ◌∷◌, ◌++◌, length, map, get_or, take, drop, arith, subst, sym, ap, refl, ◌∙◌, append_assoc, ◌⊎◌, ⊎_elim, inl, inr, Bor}
 use Rattle.std.proofs.Math.Nat.{mul-le-mul_left}
 use Rattle.std.proofs.lemmas.Int.{ints}
 use Rattle.std.proofs.lemmas.List.{take_all}
-use Rattle.arith_axioms.specs.Polynomials.{Product, Polynomial, lower_factor, same_product, lower_product, joined_products, times_each, all_pairs, total_in, absolute_sum}
+use Rattle.arith_axioms.specs.Polynomials.{Product, Polynomial, lower_factor, same_product, joined_products, times_each, all_pairs, total_in, absolute_sum}
 use Rattle.arith_axioms.specs.Gathering.{NoFactorLower, IsInOrder, AreInOrder, shown, IsRising, begins, carry, IsLeastNonzero}
 use Rattle.arith_axioms.specs.declared.factor.Factor.{Factor}
 use Rattle.arith_axioms.proofs.Merging.{left_first, not_below_right, right_first}

@@ -1,4 +1,4 @@
-use Rattle.std.proofs.Common.{rules, ◌≡◌, ◌+◌, ◌^◌, ◌<◌, ◌++◌, ℤ, pos, ◌-ℤ◌, MatchOption, arith, subst, sym, ap, ap₂, ◌∙◌, to_z, of_z, FitsSigned}
+use Rattle.std.proofs.Common.{rules, ◌≡◌, ◌+◌, ◌^◌, ◌<◌, ◌++◌, pos, ◌-ℤ◌, MatchOption, arith, subst, sym, ap, ap₂, ◌∙◌, to_z, of_z, FitsSigned}
 use Rattle.std.proofs.lemmas.Int.{to_z-of_z}
 use mir.Syntax.{w128}
 use Rattle.sorted_terms.specs.Tree.{term_tree}

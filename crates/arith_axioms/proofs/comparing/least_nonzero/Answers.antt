@@ -1,4 +1,4 @@
-use Rattle.std.proofs.Common.{rules, ◌≡◌, ◌≢◌, ℤ, pos, ◌+ℤ◌, [], get_or, inl, inr, sym, ap, refl, ◌∙◌, arith, to_z, of_z, FitsSigned}
+use Rattle.std.proofs.Common.{rules, ◌≡◌, ◌≢◌, pos, ◌+ℤ◌, [], get_or, inl, inr, sym, ap, refl, ◌∙◌, arith, to_z, of_z, FitsSigned}
 use Rattle.std.proofs.lemmas.Int.{ints, to_z-of_z}
 use mir.Syntax.{w128}
 use Rattle.arith_axioms.proofs.Constants.{sum_fits}

@@ -1,4 +1,4 @@
-use Rattle.std.proofs.Common.{rules, ◌≡◌, ℤ, Bool, false, true, ap, ◌∙◌, Bor}
+use Rattle.std.proofs.Common.{rules, ◌≡◌, ℤ, Bool, ap, ◌∙◌, Bor}
 use Rattle.std.specs.Cmp.{IsStrictWeakOrder}
 use Rattle.std.specs.Ordering.{is_lt}
 use Rattle.std.proofs.lemmas.List.Sorted.{sorted_far, answers_always}

@@ -1,7 +1,7 @@
-use Rattle.std.proofs.Common.{rules, ◌≡◌, ℤ, ◌*ℤ◌, ◌∷◌, [], ◌++◌, get_or, subst, sym, ap, ap₂, ◌∙◌, to_z, of_z, FitsSigned}
+use Rattle.std.proofs.Common.{rules, ◌≡◌, ℤ, ◌*ℤ◌, ◌∷◌, [], ◌++◌, get_or, subst, sym, ap, ◌∙◌, to_z, of_z, FitsSigned}
 use Rattle.std.proofs.lemmas.Int.{to_z-of_z}
 use mir.Syntax.{w128}
-use Rattle.arith_axioms.specs.Polynomials.{Polynomial, joined_products}
+use Rattle.arith_axioms.specs.Polynomials.{joined_products}
 use Rattle.arith_axioms.proofs.Constants.{product_fits}
 use Rattle.arith_axioms.proofs.Steps.{row_goes, row_room}
 use Rattle.arith_axioms.proofs.expanding.add_row.Goals as goal

@@ -1,4 +1,4 @@
-use Rattle.std.proofs.Common.{rules, ◌≡◌, ◌<◌, length, arith, inl, inr, sym, ap, ◌∙◌}
+use Rattle.std.proofs.Common.{rules, ◌<◌, length, inl, inr, sym, ◌∙◌}
 use Rattle.arith_axioms.specs.declared.factor.Factor.TheVariants.{Name}
 use Rattle.arith_axioms.proofs.Steps.{left_goes, right_goes}
 use Rattle.arith_axioms.proofs.products.joined.Goals.{else-right-lt1-via-then-right-lt1, else-right-lt1-via-in-len1-up-right+else-lower}
