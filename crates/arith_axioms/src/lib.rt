@@ -2,8 +2,9 @@
 //!
 //! It stands on `formulas`. Its definitions are in `specs/`: the table of the axioms and the induction
 //! form (`Axioms.antt`), what computing a term tells (`Computing.antt`), the expansion of a term with its
-//! totals (`Polynomials.antt`), and what `ring` tells of two terms (`Ring.antt`). That axioms, induction forms and computed terms are true, and that terms
-//! with the same totals are equal, are laws of `laws` (`Laws.antt`).
+//! totals (`Polynomials.antt`), and what `ring` tells of two terms (`Ring.antt`). That axioms, induction
+//! forms and computed terms are true, and that terms with the same totals are equal, are laws of `laws`
+//! (`Laws.antt`).
 #![tactic(auto)]
 
 pub mod axioms;
