@@ -9,7 +9,7 @@ use Rattle.formulas.specs.Tree.{FormulaTree}
 use Rattle.formulas.specs.Tree as formula
 use Rattle.formulas.specs.Sorts.{depth}
 use Rattle.ck_text.specs.declared.token.Prefix.TheVariants as prefixes
-use Rattle.ck_text.specs.Texts.{Joint, formulas, terms, joint, prefix, binder, Text, truth, falsity, name, number, led, joined, closed, Scope, under, first_of, place_of, variable_of, meaning_of, both_of, negated, joined_term, term_of, quantifier_of, sort_or_int, joined_formula, formula_of}
+use Rattle.ck_text.specs.Texts.{Joint, formulas, terms, joint, prefix, binder, Text, truth, falsity, name, number, led, joined, closed, Bindings, under, first_of, place_of, variable_of, meaning_of, both_of, negated, joined_term, term_of, quantifier_of, sort_or_int, joined_formula, formula_of}
 use Rattle.ck_text.specs.Reading.{negated_levels, term_levels, joined_levels, formula_levels}
 use Rattle.ck_text.specs.ReadingLaws.{TermLevels, FormulaLevels}
 
@@ -37,14 +37,14 @@ first_depth : (o p : Option TermTree) → HasDepth term_depth o 1 → HasDepth t
 first_depth (Some t) p h k = h
 first_depth None p h k = k
 
-name_depth : (scope : Scope) (bytes : List ℕ) → HasDepth term_depth (meaning_of scope bytes) 1
+name_depth : (scope : Bindings) (bytes : List ℕ) → HasDepth term_depth (meaning_of scope bytes) 1
 name_depth scope bytes =
     first_depth (option_map term.index (place_of bytes scope.bound)) _ (leaf_depth term.index (λ k. refl) (place_of bytes scope.bound))
     (first_depth (option_map (λ k. term.index (length scope.bound + (scope.variables - 1 - k))) (variable_of scope.variables bytes)) (option_map term.name (number_of bytes scope.names))
     (leaf_depth (λ k. term.index (length scope.bound + (scope.variables - 1 - k))) (λ k. refl) (variable_of scope.variables bytes))
     (leaf_depth term.name (λ k. refl) (number_of bytes scope.names)))
 
-negated_depth : (scope : Scope) (a : Text) → HasDepth term_depth (term_of scope a) (term_levels a) → HasDepth term_depth (negated a (term_of scope a)) (negated_levels a (term_levels a))
+negated_depth : (scope : Bindings) (a : Text) → HasDepth term_depth (term_of scope a) (term_levels a) → HasDepth term_depth (negated a (term_of scope a)) (negated_levels a (term_levels a))
 negated_depth scope (number n) h = refl
 negated_depth scope a h = map_depth term_depth term_depth (term.unary term.minus) (λ t. refl) (term_of scope a) (term_levels a) h
 
@@ -52,7 +52,7 @@ joined_depth : (j : Joint) (t u : Option TermTree) (m n : ℕ) → HasDepth term
 joined_depth (formulas c) t u m n h k = tt
 joined_depth (terms s) t u m n h k = both_depth term_depth term_depth (term.binary s) (λ t u. refl) t u m n h k
 
-term_deep : (scope : Scope) (a : Text) → HasDepth term_depth (term_of scope a) (term_levels a)
+term_deep : (scope : Bindings) (a : Text) → HasDepth term_depth (term_of scope a) (term_levels a)
 term_deep scope (truth b) = refl
 term_deep scope falsity = tt
 term_deep scope (name bytes) = name_depth scope bytes
@@ -79,7 +79,7 @@ formula_joined_depth : (j : Joint) (a b : Option FormulaTree) (t : Option TermTr
 formula_joined_depth (formulas c) a b t k m n h i e = both_depth depth depth (formula.joined c) (λ a b. refl) a b k m h i
 formula_joined_depth (terms s) a b t k m n h i e = holds_depth t n e
 
-formula_deep : (scope : Scope) (a : Text) → HasDepth depth (formula_of scope a) (formula_levels a)
+formula_deep : (scope : Bindings) (a : Text) → HasDepth depth (formula_of scope a) (formula_levels a)
 formula_deep scope (truth b) = refl
 formula_deep scope falsity = refl
 formula_deep scope (name bytes) = holds_depth (meaning_of scope bytes) 1 (name_depth scope bytes)

@@ -8,7 +8,7 @@ use Rattle.ck_text.specs.declared.token.Prefix.TheVariants as prefixes
 use Rattle.ck_text.specs.declared.token.Mark.TheVariants as marks
 use Rattle.ck_text.specs.Tokens.{Token, Placed, bare}
 use Rattle.ck_text.specs.Tokens as token
-use Rattle.ck_text.specs.Texts.{Lead, prefix, binder, Text, truth, falsity, name, number, led, joined, closed, tokens, lead_tokens, level, right_want, lead_level, lead_on_terms, suits, Scope, first_of, meaning_of}
+use Rattle.ck_text.specs.Texts.{Lead, prefix, binder, Text, truth, falsity, name, number, led, joined, closed, tokens, lead_tokens, level, right_want, lead_level, lead_on_terms, suits, Bindings, first_of, meaning_of}
 use Rattle.ck_text.specs.Machine as texts
 use Rattle.ck_text.specs.Reading.{unknown_at, left_of}
 use Rattle.ck_text.specs.Items.{unknown_word, unknown_here, finished, or_fault, after, run}
@@ -61,7 +61,7 @@ before_length (texts.sorted q bytes s stack) rest = omega (arith, front_length s
 one_more : (st next : texts.State) (t : Token) → before st (t ∷ []) ≡ before next [] → counted_state next ≡ suc (counted_state st)
 one_more st next t e = omega (arith, before_length st (t ∷ []), before_length next [], ap length e)
 
-module _ (most : ℕ) (asked : Bool) (scope : Scope) where
+module _ (most : ℕ) (asked : Bool) (scope : Bindings) where
   -- # The first name that means nothing, by its number
 
   abbrev pub missed : List texts.Frame → Option ℕ
@@ -153,7 +153,7 @@ module _ (most : ℕ) (asked : Bool) (scope : Scope) where
   abbrev pub place : List Placed → ℕ → ℕ
   place all k = left_of (drop k all)
 
-  word_place : (f : ℕ → ℕ) (s : Scope) (t : Token) (k : ℕ) → option_map f (unknown_word s t k) ≡ unknown_word s t (f k)
+  word_place : (f : ℕ → ℕ) (s : Bindings) (t : Token) (k : ℕ) → option_map f (unknown_word s t k) ≡ unknown_word s t (f k)
   word_place f s (token.word bytes) k = by (is_some (meaning_of s bytes)) where
     by : (b : Bool) → option_map f (if b then None else Some k) ≡ (if b then None else Some (f k))
     by true = refl

@@ -8,7 +8,7 @@ use Rattle.formulas.specs.Tree.{FormulaTree, Connective}
 use Rattle.formulas.specs.Tree as formula
 use Rattle.ck_text.specs.declared.token.Sign.{Sign}
 use Rattle.ck_text.specs.declared.token.Prefix.TheVariants as prefixes
-use Rattle.ck_text.specs.Texts.{Joint, formulas, terms, joint, joins_terms, prefix, binder, Text, truth, falsity, name, number, led, joined, closed, level, on_terms, is_term, suits, opens, Fits, Scope, under, meaning_of, both_of, negated, joined_term, term_of, quantifier_of, sort_or_int, joined_formula, formula_of}
+use Rattle.ck_text.specs.Texts.{Joint, formulas, terms, joint, joins_terms, prefix, binder, Text, truth, falsity, name, number, led, joined, closed, level, on_terms, is_term, suits, opens, Fits, Bindings, under, meaning_of, both_of, negated, joined_term, term_of, quantifier_of, sort_or_int, joined_formula, formula_of}
 use Rattle.ck_text.specs.Reading.{negated_levels, term_levels, joined_levels, formula_levels, Tree, of_term, of_formula}
 use Rattle.ck_text.specs.Items.{Item, is_term_tree, grown, as_term, as_formula, formula_height, height, term_item, formula_item, name_item, negated_item, joint_item}
 use Rattle.ck_text.proofs.Shown.{item_of, form_shown}
@@ -30,7 +30,7 @@ joint_negative : (most : ℕ) (j : Joint) (r : ℕ) (a b : Item) → (joint_item
 joint_negative most (formulas c) r a b = refl
 joint_negative most (terms s) r a b = refl
 
-negative_shown : (most : ℕ) (scope : Scope) (a : Text) → (item_of most scope a).negative ≡ negative_of a
+negative_shown : (most : ℕ) (scope : Bindings) (a : Text) → (item_of most scope a).negative ≡ negative_of a
 negative_shown most scope (truth b) = refl
 negative_shown most scope falsity = refl
 negative_shown most scope (name bytes) = name_negative (meaning_of scope bytes)
@@ -109,7 +109,7 @@ module _ (most : ℕ) where
   name_kept (Some t) = (leaf_levels, (λ k. refl))
   name_kept None = (leaf_levels, (λ k. tt))
 
-  negated_kept : (scope : Scope) (a : Text) (i : Item) → TermKept (term_levels a) i (term_of scope a) → TermKept (negated_levels a (term_levels a)) (negated_item most (negative_of a) i) (negated a (term_of scope a))
+  negated_kept : (scope : Bindings) (a : Text) (i : Item) → TermKept (term_levels a) i (term_of scope a) → TermKept (negated_levels a (term_levels a)) (negated_item most (negative_of a) i) (negated a (term_of scope a))
   negated_kept scope (number n) i h = (leaf_levels, (λ k. refl))
   negated_kept scope a i h = unary_kept term.minus 10 (term_levels a) i (term_of scope a) h
 
@@ -120,7 +120,7 @@ module _ (most : ℕ) where
   term_operand : (o : Sign) (a : Text) → on_terms o ≡ true → suits (on_terms o) (is_term a) ≡ true → is_term a ≡ true
   term_operand o a on h = subst (λ b. suits b (is_term a) ≡ true) on h
 
-  pub term_kept : (scope : Scope) (limit around : ℕ) (a : Text) → Fits limit around a → is_term a ≡ true → TermKept (term_levels a) (item_of most scope a) (term_of scope a)
+  pub term_kept : (scope : Bindings) (limit around : ℕ) (a : Text) → Fits limit around a → is_term a ≡ true → TermKept (term_levels a) (item_of most scope a) (term_of scope a)
   term_kept scope limit around (truth b) h is = (leaf_levels, (λ k. refl))
   term_kept scope limit around falsity h is = absurd (cc)
   term_kept scope limit around (name bytes) h is = name_kept (meaning_of scope bytes)
@@ -171,10 +171,10 @@ module _ (most : ℕ) where
       (λ l. both_is c o p i.tree j.tree (h.1 (left_small m n l)) (k.1 (right_small m n l)))
 
   -- a term that stands as a formula
-  as_formula_kept : (scope : Scope) (limit around : ℕ) (a : Text) → Fits limit around a → is_term a ≡ true → FormulaKept (1 + term_levels a) (item_of most scope a) (option_map formula.holds (term_of scope a))
+  as_formula_kept : (scope : Bindings) (limit around : ℕ) (a : Text) → Fits limit around a → is_term a ≡ true → FormulaKept (1 + term_levels a) (item_of most scope a) (option_map formula.holds (term_of scope a))
   as_formula_kept scope limit around a h is = holds_kept (term_levels a) (item_of most scope a) (term_of scope a) (form_shown most scope a ∙ is) (term_kept scope limit around a h is)
 
-  pub formula_kept : (scope : Scope) (limit around : ℕ) (a : Text) → Fits limit around a → FormulaKept (formula_levels a) (item_of most scope a) (formula_of scope a)
+  pub formula_kept : (scope : Bindings) (limit around : ℕ) (a : Text) → Fits limit around a → FormulaKept (formula_levels a) (item_of most scope a) (formula_of scope a)
   formula_kept scope limit around (truth b) h = as_formula_kept scope limit around (truth b) h refl
   formula_kept scope limit around falsity h = (leaf_levels, (λ k. refl))
   formula_kept scope limit around (name bytes) h = as_formula_kept scope limit around (name bytes) h refl

@@ -1,4 +1,5 @@
 pub mod Scanning
+pub mod Scans
 pub mod Tables
 pub mod Stacks
 pub mod Keeping
@@ -18,9 +19,11 @@ pub mod Shown
 pub mod Kept
 pub mod Following
 pub mod Outcomes
+pub mod Reported
 pub mod Values
 pub mod Numbers
 pub mod Rooms
 pub mod Runs
 pub mod Smalls
 pub mod Nodes
+pub mod Sizes

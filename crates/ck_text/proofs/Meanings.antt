@@ -9,7 +9,7 @@ use Rattle.formulas.specs.Tree.{FormulaTree}
 use Rattle.formulas.specs.Tree as formula
 use Rattle.ck_text.specs.declared.token.Sign.{Sign}
 use Rattle.ck_text.specs.declared.token.Prefix.TheVariants as prefixes
-use Rattle.ck_text.specs.Texts.{Joint, formulas, terms, joint, joins_terms, on_terms, prefix, binder, Text, truth, falsity, name, number, led, joined, closed, is_term, suits, opens, Fits, Scope, under, meaning_of, both_of, negated, joined_term, term_of, quantifier_of, sort_or_int, joined_formula, formula_of, names_in, is_known}
+use Rattle.ck_text.specs.Texts.{Joint, formulas, terms, joint, joins_terms, on_terms, prefix, binder, Text, truth, falsity, name, number, led, joined, closed, is_term, suits, opens, Fits, Bindings, under, meaning_of, both_of, negated, joined_term, term_of, quantifier_of, sort_or_int, joined_formula, formula_of, names_in, is_known}
 use Rattle.ck_text.specs.Laws.{TermMeans, FormulaMeans}
 
 some_map : {A B : Type 0} (f : A → B) (o : Option A) → is_some (option_map f o) ≡ is_some o
@@ -26,11 +26,11 @@ alone true = refl
 alone false = refl
 
 -- all names of the two operands
-both_known : (scope : Scope) (a b : Text) (x y : Bool) → x ≡ list_all is_known (names_in scope a) → y ≡ list_all is_known (names_in scope b)
+both_known : (scope : Bindings) (a b : Text) (x y : Bool) → x ≡ list_all is_known (names_in scope a) → y ≡ list_all is_known (names_in scope b)
     → (x && y) ≡ list_all is_known (names_in scope a ++ names_in scope b)
 both_known scope a b x y e f = ap₂ (λ x y. x && y) e f ∙ sym (list_all-append is_known (names_in scope a) (names_in scope b))
 
-negated_known : (scope : Scope) (a : Text) → is_some (term_of scope a) ≡ list_all is_known (names_in scope a) → is_some (negated a (term_of scope a)) ≡ list_all is_known (names_in scope a)
+negated_known : (scope : Bindings) (a : Text) → is_some (term_of scope a) ≡ list_all is_known (names_in scope a) → is_some (negated a (term_of scope a)) ≡ list_all is_known (names_in scope a)
 negated_known scope (number n) e = refl
 negated_known scope a e = some_map (term.unary term.minus) (term_of scope a) ∙ e
 
@@ -41,7 +41,7 @@ joined_known (terms s) t u on = some_both (term.binary s) t u
 term_operand : (o : Sign) (a : Text) → on_terms o ≡ true → suits (on_terms o) (is_term a) ≡ true → is_term a ≡ true
 term_operand o a on h = subst (λ b. suits b (is_term a) ≡ true) on h
 
-term_known : (scope : Scope) (limit around : ℕ) (a : Text) → Fits limit around a → is_term a ≡ true → is_some (term_of scope a) ≡ list_all is_known (names_in scope a)
+term_known : (scope : Bindings) (limit around : ℕ) (a : Text) → Fits limit around a → is_term a ≡ true → is_some (term_of scope a) ≡ list_all is_known (names_in scope a)
 term_known scope limit around (truth b) h is = refl
 term_known scope limit around falsity h is = absurd (cc)
 term_known scope limit around (name bytes) h is = alone (is_some (meaning_of scope bytes))
@@ -56,7 +56,7 @@ term_known scope limit around (joined o a b) h is =
     (term_known scope limit around a h.5 (term_operand o a is h.2)) (term_known scope limit (opens o + around) b h.6 (term_operand o b is h.3))
 term_known scope limit around (closed a) h is = term_known scope limit (suc around) a h.1 is
 
-formula_known : (scope : Scope) (limit around : ℕ) (a : Text) → Fits limit around a → is_some (formula_of scope a) ≡ list_all is_known (names_in scope a)
+formula_known : (scope : Bindings) (limit around : ℕ) (a : Text) → Fits limit around a → is_some (formula_of scope a) ≡ list_all is_known (names_in scope a)
 formula_known scope limit around (truth b) h = refl
 formula_known scope limit around falsity h = refl
 formula_known scope limit around (name bytes) h = some_map formula.holds (meaning_of scope bytes) ∙ alone (is_some (meaning_of scope bytes))

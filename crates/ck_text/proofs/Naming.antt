@@ -8,7 +8,7 @@ use Rattle.ck_base.specs.Names.{is_letter, is_digit, is_name_byte, is_name, is_n
 use Rattle.ck_base.specs.declared.decl.Decl.{Decl}
 use Rattle.sorted_terms.specs.Tree as term
 use Rattle.ck_text.specs.Tokens.{is_word, value_from}
-use Rattle.ck_text.specs.Texts.{Scope, place_of, variable_of, meaning_of}
+use Rattle.ck_text.specs.Texts.{Bindings, place_of, variable_of, meaning_of}
 use Rattle.ck_text.specs.Printing.{variable_name, name_of}
 use Rattle.ck_text.proofs.Decimals.{plain}
 
@@ -109,7 +109,7 @@ numbered (d ∷ names) (suc x) h l = rw (new_apart d.name names x h.1 (omega (ar
 -- # Meaning
 
 -- the scope under so many quantifiers with printed names
-abbrev pub printed_scope : List Decl → (variables quantifiers : ℕ) → Scope
+abbrev pub printed_scope : List Decl → (variables quantifiers : ℕ) → Bindings
 printed_scope names variables n = record { names = names; variables = variables; bound = bound_names variables n }
 
 length_bound : (variables n : ℕ) → length (bound_names variables n) ≡ n

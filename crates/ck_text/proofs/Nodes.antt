@@ -13,7 +13,7 @@ use Rattle.ck_text.specs.declared.token.Prefix.TheVariants as prefixes
 use Rattle.ck_text.specs.declared.token.Mark.TheVariants as marks
 use Rattle.ck_text.specs.Tokens as token
 use Rattle.ck_text.specs.declared.token.Sign.{Sign}
-use Rattle.ck_text.specs.Texts.{Joint, formulas, terms, joint, prefix, binder, Text, truth, falsity, name, number, led, joined, closed, lead_tokens, tokens, Scope, under, first_of, place_of, variable_of, meaning_of, both_of, negated, joined_term, term_of, quantifier_of, sort_or_int, joined_formula, formula_of}
+use Rattle.ck_text.specs.Texts.{Joint, formulas, terms, joint, prefix, binder, Text, truth, falsity, name, number, led, joined, closed, lead_tokens, tokens, Bindings, under, first_of, place_of, variable_of, meaning_of, both_of, negated, joined_term, term_of, quantifier_of, sort_or_int, joined_formula, formula_of}
 use Rattle.ck_text.specs.ReadingLaws.{TermNodes, FormulaNodes}
 
 -- the tree that is there has at most so many nodes
@@ -33,7 +33,7 @@ first_most : (o p : Option TermTree) → HasMost term_size o 1 → HasMost term_
 first_most (Some t) p h k = h
 first_most None p h k = k
 
-name_most : (scope : Scope) (bytes : List ℕ) → HasMost term_size (meaning_of scope bytes) 1
+name_most : (scope : Bindings) (bytes : List ℕ) → HasMost term_size (meaning_of scope bytes) 1
 name_most scope bytes =
     first_most (option_map term.index (place_of bytes scope.bound)) _ (leaf_most term.index (λ k. omega arith) (place_of bytes scope.bound))
     (first_most (option_map (λ k. term.index (length scope.bound + (scope.variables - 1 - k))) (variable_of scope.variables bytes)) (option_map term.name (number_of bytes scope.names))
@@ -44,7 +44,7 @@ unary_most : (s : term.UnarySign) (o : Option TermTree) (n : ℕ) → HasMost te
 unary_most s (Some t) n h = omega (arith, h)
 unary_most s None n h = tt
 
-negated_most : (scope : Scope) (a : Text) (n : ℕ) → HasMost term_size (term_of scope a) n → HasMost term_size (negated a (term_of scope a)) (1 + n)
+negated_most : (scope : Bindings) (a : Text) (n : ℕ) → HasMost term_size (term_of scope a) n → HasMost term_size (negated a (term_of scope a)) (1 + n)
 negated_most scope (number k) n h = omega arith
 negated_most scope a n h = unary_most term.minus (term_of scope a) n h
 
@@ -60,7 +60,7 @@ joined_length o a b = omega (arith, length-append (tokens a) (token.joining o �
 closed_length : (a : Text) → length (tokens a) ≤ length (tokens (closed a))
 closed_length a = omega (arith, length-append (tokens a) (token.mark marks.Close ∷ []))
 
-term_most : (scope : Scope) (a : Text) → HasMost term_size (term_of scope a) (length (tokens a))
+term_most : (scope : Bindings) (a : Text) → HasMost term_size (term_of scope a) (length (tokens a))
 term_most scope (truth b) = omega arith
 term_most scope falsity = tt
 term_most scope (name bytes) = name_most scope bytes
@@ -89,7 +89,7 @@ some_tokens (joined o a b) = omega (arith, joined_length o a b)
 some_tokens (closed a) = omega (arith, closed_length a, some_tokens a)
 
 -- a term that stands as a formula
-term_formula : (scope : Scope) (a : Text) → HasMost size (option_map formula.holds (term_of scope a)) (2 * length (tokens a))
+term_formula : (scope : Bindings) (a : Text) → HasMost size (option_map formula.holds (term_of scope a)) (2 * length (tokens a))
 term_formula scope a = holds_most (term_of scope a) (length (tokens a)) (some_tokens a) (term_most scope a)
 
 denied_most : (o : Option FormulaTree) (n : ℕ) → HasMost size o (2 * n) → HasMost size (option_map formula.not_so o) (2 * (1 + n))
@@ -109,7 +109,7 @@ joint_most : (j : Joint) (a b : Option FormulaTree) (t : Option TermTree) (k m n
 joint_most (formulas c) a b t k m n e h i g = more size (both_of (formula.joined c) a b) (2 * (1 + m + n)) (2 * k) (omega (arith, e)) (both_most c a b m n h i)
 joint_most (terms s) a b t k m n e h i g = g
 
-formula_most : (scope : Scope) (a : Text) → HasMost size (formula_of scope a) (2 * length (tokens a))
+formula_most : (scope : Bindings) (a : Text) → HasMost size (formula_of scope a) (2 * length (tokens a))
 formula_most scope (truth b) = term_formula scope (truth b)
 formula_most scope falsity = omega arith
 formula_most scope (name bytes) = term_formula scope (name bytes)

@@ -9,7 +9,7 @@ use Rattle.std.proofs.Math.Seq.{take-append_seam}
 use Rattle.formulas.specs.Tree.{FormulaTree}
 use Rattle.sorted_terms.specs.Tree.{TermTree}
 use Rattle.ck_text.specs.Tokens.{Token, Placed, scan, bare}
-use Rattle.ck_text.specs.Texts.{Text, IsText, Scope, term_of, formula_of}
+use Rattle.ck_text.specs.Texts.{Text, IsText, Bindings, term_of, formula_of}
 use Rattle.ck_text.specs.Machine as texts
 use Rattle.ck_text.specs.Laws.{Begins, StopsAt}
 use Rattle.ck_text.specs.Reading.{text_levels, Tree, of_term, of_formula, tree_of, unknown_at, left_of, column_of, column_at, tokens_of, IsWritten, Fault, by_syntax, by_depth, by_name, IsOutcome}
@@ -24,7 +24,7 @@ use Rattle.ck_text.proofs.Following.{place, run_kept, run_stops}
 
 -- # Lists
 
-bare_length : (placed : List Placed) → length (bare placed) ≡ length placed
+pub bare_length : (placed : List Placed) → length (bare placed) ≡ length placed
 bare_length [] = refl
 bare_length (p ∷ placed) = ap suc (bare_length placed)
 
@@ -71,7 +71,7 @@ some_map f None = refl
 -- # Texts
 
 -- what is kept of a text of the asked form
-abbrev AskedKept : ℕ → Bool → Scope → Text → Type 0
+abbrev AskedKept : ℕ → Bool → Bindings → Text → Type 0
 AskedKept most asked scope a =
     (levels_asked most asked (item_of most scope a) ≡ min (text_levels asked a) (suc most))
     × ((tree : Tree) → text_levels asked a ≤ most → tree_of asked scope a ≡ Some tree → tree_asked asked (item_of most scope a) ≡ tree)
@@ -84,7 +84,7 @@ formula_asked : (o : Option FormulaTree) (made tree : Tree) → IsFormula o made
 formula_asked (Some a) made tree h e = let same : of_formula a ≡ tree = cc in ap of_formula h ∙ same
 formula_asked None made tree h e = absurd (cc)
 
-asked_kept : (limit most : ℕ) (asked : Bool) (scope : Scope) (a : Text) → IsText limit asked a → AskedKept most asked scope a
+asked_kept : (limit most : ℕ) (asked : Bool) (scope : Bindings) (a : Text) → IsText limit asked a → AskedKept most asked scope a
 asked_kept limit most true scope a h =
     let k = term_kept most scope limit 0 a h.0 h.1 in
     (k.0, (λ tree l e. term_asked (term_of scope a) (item_of most scope a).tree tree (k.1 l) e))
@@ -93,11 +93,11 @@ asked_kept limit most false scope a h =
     (k.0, (λ tree l e. formula_asked (formula_of scope a) (item_of most scope a).tree tree (k.1 l) e))
 
 -- a text means a tree exactly where no name of it is the first that means nothing
-means_known : (limit : ℕ) (asked : Bool) (scope : Scope) (a : Text) → IsText limit asked a → is_some (tree_of asked scope a) ≡ is_none (unknown_at 0 scope a)
+means_known : (limit : ℕ) (asked : Bool) (scope : Bindings) (a : Text) → IsText limit asked a → is_some (tree_of asked scope a) ≡ is_none (unknown_at 0 scope a)
 means_known limit true scope a h = some_map of_term (term_of scope a) ∙ term_means limit scope a h ∙ sym (unknown_names 0 scope a)
 means_known limit false scope a h = some_map of_formula (formula_of scope a) ∙ formula_means limit scope a h ∙ sym (unknown_names 0 scope a)
 
-module _ (limit most : ℕ) (asked : Bool) (scope : Scope) (bytes : List ℕ) where
+module _ (limit most : ℕ) (asked : Bool) (scope : Bindings) (bytes : List ℕ) where
   abbrev all : List Placed
   all = scan 0 bytes
 

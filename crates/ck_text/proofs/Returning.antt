@@ -15,10 +15,10 @@ use Rattle.ck_text.specs.declared.token.Prefix.TheVariants as prefixes
 use Rattle.ck_text.specs.declared.token.Mark.TheVariants as marks
 use Rattle.ck_text.specs.Tokens.{Token, AreTokens, bare, scan}
 use Rattle.ck_text.specs.Tokens as token
-use Rattle.ck_text.specs.Texts.{formulas, terms, joint, prefix, Text, truth, falsity, name, number, led, joined, closed, left_want, right_want, rank, tokens, IsText, Scope, under, both_of, negated, joined_term, term_of, quantifier_of, joined_formula, formula_of}
+use Rattle.ck_text.specs.Texts.{formulas, terms, joint, prefix, Text, truth, falsity, name, number, led, joined, closed, left_want, right_want, rank, tokens, IsText, Bindings, under, both_of, negated, joined_term, term_of, quantifier_of, joined_formula, formula_of, whole_scope}
 use Rattle.ck_text.specs.Machine.{read}
 use Rattle.ck_text.specs.Printing.{at_level, with_sign, variable_name, minus_operand, term_sign, term_text, connective_sign, joined_text, quantifier_word, formula_text, printed, TermHasText, FormulaHasText}
-use Rattle.ck_text.specs.Laws.{whole_scope, TermTextMeans, FormulaTextMeans, ReadsAs, TermReadsBack, FormulaReadsBack}
+use Rattle.ck_text.specs.Laws.{TermTextMeans, FormulaTextMeans, ReadsAs, TermReadsBack, FormulaReadsBack}
 use Rattle.ck_text.proofs.Rereading.{whole_read}
 use Rattle.ck_text.proofs.Rescanning.{printed_scans}
 use Rattle.ck_text.proofs.Fitting.{minus_both, joined_both, term_text_is, formula_text_is}
@@ -26,10 +26,10 @@ use Rattle.ck_text.proofs.Naming.{printed_scope, name_means, index_means, variab
 
 -- # Parts
 
-level_term : (scope : Scope) (wanted : ℕ) (a : Text) → term_of scope (at_level wanted a) ≡ term_of scope a
+level_term : (scope : Bindings) (wanted : ℕ) (a : Text) → term_of scope (at_level wanted a) ≡ term_of scope a
 level_term scope wanted a = cond_both (nat_le wanted (rank a)) a (closed a) (λ x. term_of scope x ≡ term_of scope a) (λ e. refl) (λ e. refl)
 
-level_formula : (scope : Scope) (wanted : ℕ) (a : Text) → formula_of scope (at_level wanted a) ≡ formula_of scope a
+level_formula : (scope : Bindings) (wanted : ℕ) (a : Text) → formula_of scope (at_level wanted a) ≡ formula_of scope a
 level_formula scope wanted a = cond_both (nat_le wanted (rank a)) a (closed a) (λ x. formula_of scope x ≡ formula_of scope a) (λ e. refl) (λ e. refl)
 
 term_joint : (s : BinarySign) → joint (term_sign s) ≡ terms s
@@ -81,7 +81,7 @@ operand_no_number names around (term.binary s t u) = level_no_number 10 (term_te
 -- # Terms
 
 module _ (names : List Decl) (are : AreNames names) (variables n : ℕ) (few : n + variables < 10 ^ 64) where
-  abbrev pub within : Scope
+  abbrev pub within : Bindings
   within = printed_scope names variables n
 
   pub term_returns : (t : TermTree) → TermHasText (length names) (n + variables) t → term_of within (term_text names (n + variables) t) ≡ Some t
@@ -111,7 +111,7 @@ term_around names are variables n around same few t h =
     (term_returns names are variables n (omega (arith, few, same)) t (subst (λ k. TermHasText (length names) k t) same h))
 
 -- a term means as a formula that it holds
-holds_means : (scope : Scope) (names : List Decl) (around : ℕ) (t : TermTree) → formula_of scope (term_text names around t) ≡ option_map formula.holds (term_of scope (term_text names around t))
+holds_means : (scope : Bindings) (names : List Decl) (around : ℕ) (t : TermTree) → formula_of scope (term_text names around t) ≡ option_map formula.holds (term_of scope (term_text names around t))
 holds_means scope names around (term.name x) = refl
 holds_means scope names around (term.index k) = refl
 holds_means scope names around (term.integer (pos m)) = refl
@@ -127,7 +127,7 @@ holds_means scope names around (term.binary s t u) =
 -- # Formulas
 
 module _ (names : List Decl) (are : AreNames names) (variables : ℕ) where
-  joined_returns : (scope : Scope) (c : Connective) (a b : FormulaTree) (x y : Text) → formula_of scope x ≡ Some a → formula_of scope y ≡ Some b → formula_of scope (joined_text c b x y) ≡ Some (formula.joined c a b)
+  joined_returns : (scope : Bindings) (c : Connective) (a b : FormulaTree) (x y : Text) → formula_of scope x ≡ Some a → formula_of scope y ≡ Some b → formula_of scope (joined_text c b x y) ≡ Some (formula.joined c a b)
   joined_returns scope formula.implies a formula.bottom x y h k = ap (option_map not_so) (level_formula scope 3 x ∙ h)
   joined_returns scope formula.implies a (formula.holds t) x y h k = ap₂ (both_of (formula.joined formula.implies)) (level_formula scope 1 x ∙ h) (level_formula scope 0 y ∙ k)
   joined_returns scope formula.implies a (formula.joined c d e) x y h k = ap₂ (both_of (formula.joined formula.implies)) (level_formula scope 1 x ∙ h) (level_formula scope 0 y ∙ k)

@@ -6,7 +6,7 @@ use Rattle.ck_text.specs.declared.token.Sign.TheVariants as sign
 use Rattle.ck_text.specs.declared.token.Mark.TheVariants as marks
 use Rattle.ck_text.specs.Tokens.{Token}
 use Rattle.ck_text.specs.Tokens as token
-use Rattle.ck_text.specs.Texts.{Lead, binder, lead_level, lead_on_terms, suits, Scope}
+use Rattle.ck_text.specs.Texts.{Lead, binder, lead_level, lead_on_terms, suits, Bindings}
 use Rattle.ck_text.specs.Items.{Item, Frame, State, wanting, having, naming, named, sorting, sorted, want, asks, opened, may_lead, guarded, reduced, closes, closed_by, leading, operand, parenthesis, step}
 use Rattle.ck_text.specs.Views.{HasRoom}
 
@@ -31,7 +31,7 @@ closes_room (f ∷ stack, i) next e = by f.held e where
   by (operand o j) e = absurd (cc)
   by parenthesis e = goes (having stack _) next e tt
 
-module _ (asked : Bool) (scope : Scope) where
+module _ (asked : Bool) (scope : Bindings) where
   pub room_kept : (st : State) (t : Token) (next : State) → HasRoom st → step NESTING FORMULA_DEPTH asked scope st t ≡ Some next → HasRoom next
   room_kept (wanting stack) (token.truth b) next h e = goes _ next e tt
   room_kept (wanting stack) (token.mark marks.Bottom) next h e = goes_guarded _ _ next e tt

@@ -2,13 +2,13 @@
 use Rattle.std.proofs.Common.{◌≡◌, ℕ, suc, ◌+◌, ◌-◌, ◌≤◌, Bool, List, [], ◌∷◌, length, map, take, drop, get_or, sym, subst, ap, arith, Option, Some}
 use Rattle.std.proofs.lemmas.List.{take_all}
 use Rattle.ck_base.specs.declared.limits.TheConstants.{NESTING, FORMULA_DEPTH}
-use Rattle.ck_text.specs.declared.reader.Placed.{Placed}
-use Rattle.ck_text.specs.Texts.{Scope, first_of}
+use Rattle.ck_text.specs.declared.scan.Placed.{Placed}
+use Rattle.ck_text.specs.Texts.{Bindings, first_of}
 use Rattle.ck_text.specs.Items.{State, step, unknown_here, after, run}
 use Rattle.ck_text.specs.Views as views
 use Rattle.ck_text.proofs.Rooms.{room_kept}
 
-module _ (asked : Bool) (scope : Scope) where
+module _ (asked : Bool) (scope : Bindings) where
   -- what holds after a step, with the tokens that are left
   abbrev pub Goes : List Placed → Placed → State → State → Option ℕ → List Placed → Type 0
   Goes rest p st next unknown left =

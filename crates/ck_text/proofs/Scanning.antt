@@ -14,7 +14,7 @@ use Rattle.ck_text.specs.Laws.{AreWritten, TokensAreWritten}
 abbrev Written : Token → Type 0
 Written t = (t ≡ none → ⊥) → IsToken t
 
-all_counted : (test : ℕ → Bool) (bytes : List ℕ) → list_all test (take (count_while test bytes) bytes) ≡ true
+pub all_counted : (test : ℕ → Bool) (bytes : List ℕ) → list_all test (take (count_while test bytes) bytes) ≡ true
 all_counted test [] = refl
 all_counted test (b ∷ bytes) = by (all_counted test bytes) (test b) refl where
   by : list_all test (take (count_while test bytes) bytes) ≡ true → (t : Bool) → test b ≡ t → list_all test (take (if t then suc (count_while test bytes) else 0) (b ∷ bytes)) ≡ true

@@ -9,13 +9,13 @@ use Rattle.ck_text.specs.declared.token.Prefix.TheVariants as prefixes
 use Rattle.ck_text.specs.declared.token.Mark.TheVariants as marks
 use Rattle.ck_text.specs.Tokens.{Token}
 use Rattle.ck_text.specs.Tokens as token
-use Rattle.ck_text.specs.Texts.{Joint, formulas, terms, joint, joins_terms, Lead, prefix, binder, Text, truth, falsity, name, number, led, joined, closed, level, left_want, right_want, lead_level, rank, on_terms, lead_on_terms, is_term, suits, opens, Scope, under, meaning_of}
+use Rattle.ck_text.specs.Texts.{Joint, formulas, terms, joint, joins_terms, Lead, prefix, binder, Text, truth, falsity, name, number, led, joined, closed, level, left_want, right_want, lead_level, rank, on_terms, lead_on_terms, is_term, suits, opens, Bindings, under, meaning_of}
 use Rattle.ck_text.specs.Machine as texts
 use Rattle.ck_text.specs.Reading.{scope_after}
 use Rattle.ck_text.specs.Items.{Item, is_term_tree, leaf_item, falsity_item, number_item, name_item, negated_item, led_item, joint_item, joined_item, closed_item, Frame, State, wanting, having, naming, named, sorting, sorted, want, asks, opened, with_lead, with_operand, with_parenthesis, scope_at, reduced, guarded, leads, joins, closes, step, alone, finished}
 
 -- what is kept of a text
-abbrev pub item_of : ℕ → Scope → Text → Item
+abbrev pub item_of : ℕ → Bindings → Text → Item
 item_of most scope (truth b) = leaf_item (term.boolean b)
 item_of most scope falsity = falsity_item
 item_of most scope (name bytes) = name_item (meaning_of scope bytes)
@@ -37,7 +37,7 @@ joint_rank : (most : ℕ) (j : Joint) (r : ℕ) (a b : Item) → (joint_item mos
 joint_rank most (formulas c) r a b = refl
 joint_rank most (terms s) r a b = refl
 
-pub rank_shown : (most : ℕ) (scope : Scope) (a : Text) → (item_of most scope a).rank ≡ rank a
+pub rank_shown : (most : ℕ) (scope : Bindings) (a : Text) → (item_of most scope a).rank ≡ rank a
 rank_shown most scope (truth b) = refl
 rank_shown most scope falsity = refl
 rank_shown most scope (name bytes) = name_rank (meaning_of scope bytes)
@@ -61,7 +61,7 @@ joint_form : (most : ℕ) (j : Joint) (r : ℕ) (a b : Item) → is_term_tree (j
 joint_form most (formulas c) r a b = refl
 joint_form most (terms s) r a b = refl
 
-pub form_shown : (most : ℕ) (scope : Scope) (a : Text) → is_term_tree (item_of most scope a).tree ≡ is_term a
+pub form_shown : (most : ℕ) (scope : Bindings) (a : Text) → is_term_tree (item_of most scope a).tree ≡ is_term a
 form_shown most scope (truth b) = refl
 form_shown most scope falsity = refl
 form_shown most scope (name bytes) = name_form (meaning_of scope bytes)
@@ -77,9 +77,9 @@ if_shown : {A B : Type 0} (f : A → B) (test : Bool) (x y : B) (v w : A) → x 
 if_shown f true x y v w e h = e
 if_shown f false x y v w e h = h
 
-module _ (most : ℕ) (asked : Bool) (scope : Scope) where
+module _ (most : ℕ) (asked : Bool) (scope : Bindings) where
   -- the scope of the operand that the stack wants
-  abbrev pub scope_under : List texts.Frame → Scope
+  abbrev pub scope_under : List texts.Frame → Bindings
   scope_under [] = scope
   scope_under (texts.leading l ∷ stack) = scope_after l (scope_under stack)
   scope_under (texts.operand o a ∷ stack) = scope_under stack

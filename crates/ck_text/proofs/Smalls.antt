@@ -5,7 +5,7 @@ use Rattle.ck_text.specs.Tokens.{Token, Placed, number, none, IsToken, is_blank,
 use Rattle.ck_text.specs.Laws.{AreWritten}
 use Rattle.ck_text.specs.Views.{IsSmall, AreSmall}
 use Rattle.ck_text.specs.Views as views
-use Rattle.ck_text.specs.declared.reader.Placed as code_placed
+use Rattle.ck_text.specs.declared.scan.Placed as code_placed
 use Rattle.ck_text.proofs.Scanning.{tokens_are_written}
 
 small : (t : Token) → ((t ≡ none → ⊥) → IsToken t) → IsSmall t

@@ -16,7 +16,7 @@ use Rattle.ck_text.specs.declared.token.Quantifier.{Quantifier}
 use Rattle.ck_text.specs.declared.token.Mark.TheVariants as marks
 use Rattle.ck_text.specs.Tokens.{Token, Placed, scan}
 use Rattle.ck_text.specs.Tokens as token
-use Rattle.ck_text.specs.Texts.{Joint, formulas, terms, joint, Lead, prefix, binder, level, left_want, right_want, lead_level, on_terms, lead_on_terms, suits, opens, Scope, first_of, meaning_of, quantifier_of, sort_or_int}
+use Rattle.ck_text.specs.Texts.{Joint, formulas, terms, joint, Lead, prefix, binder, level, left_want, right_want, lead_level, on_terms, lead_on_terms, suits, opens, Bindings, first_of, meaning_of, quantifier_of, sort_or_int}
 use Rattle.ck_text.specs.Reading.{Tree, of_term, of_formula, left_of, column_of, Fault, by_syntax, by_depth, by_name}
 
 -- # Items
@@ -158,7 +158,7 @@ bound_by outer [] = outer
 bound_by outer (f ∷ stack) = held_bound f.held (bound_by outer stack)
 
 -- the scope of the operand that is wanted
-abbrev pub scope_at : Scope → List Frame → Scope
+abbrev pub scope_at : Bindings → List Frame → Bindings
 scope_at scope stack = record { names = scope.names; variables = scope.variables; bound = bound_by scope.bound stack }
 
 -- the frame wants at least that level, and is no `(`
@@ -207,7 +207,7 @@ closes ([], i) = None
 closes (f ∷ stack, i) = closed_by f.held stack i
 
 -- the state after a token; none where no text goes on with it
-abbrev pub step : (limit most : ℕ) (asked : Bool) → Scope → State → Token → Option State
+abbrev pub step : (limit most : ℕ) (asked : Bool) → Bindings → State → Token → Option State
 step limit most asked scope (wanting stack) (token.truth b) = Some (having stack (leaf_item (term.boolean b)))
 step limit most asked scope (wanting stack) (token.mark marks.Bottom) = guarded (suits (asks asked stack) false) (having stack falsity_item)
 step limit most asked scope (wanting stack) (token.word bytes) = Some (having stack (name_item (meaning_of (scope_at scope stack) bytes)))
@@ -227,11 +227,11 @@ step limit most asked scope (sorted q bytes s stack) (token.mark marks.Dot) = So
 step limit most asked scope state t = None
 
 -- the place of the token, where it is a name that is wanted and means nothing
-abbrev pub unknown_word : Scope → Token → (left : ℕ) → Option ℕ
+abbrev pub unknown_word : Bindings → Token → (left : ℕ) → Option ℕ
 unknown_word scope (token.word bytes) left = if is_some (meaning_of scope bytes) then None else Some left
 unknown_word scope t left = None
 
-abbrev pub unknown_here : Scope → State → Token → (left : ℕ) → Option ℕ
+abbrev pub unknown_here : Bindings → State → Token → (left : ℕ) → Option ℕ
 unknown_here scope (wanting stack) t left = unknown_word (scope_at scope stack) t left
 unknown_here scope state t left = None
 
@@ -257,7 +257,7 @@ after None left run = Err left
 
 -- The item of the tokens from a state on, with the place of the first name that means nothing, or the place
 -- where the reader stops; 0 is the end.
-abbrev pub run : (limit most : ℕ) (asked : Bool) → Scope → List Placed → State → Option ℕ → Result (Item × Option ℕ) ℕ
+abbrev pub run : (limit most : ℕ) (asked : Bool) → Bindings → List Placed → State → Option ℕ → Result (Item × Option ℕ) ℕ
 run limit most asked scope [] state unknown = or_fault (finished most state) unknown
 run limit most asked scope (p ∷ placed) state unknown =
     after (step limit most asked scope state p.token) p.left (λ next. run limit most asked scope placed next (first_of unknown (unknown_here scope state p.token p.left)))
@@ -284,5 +284,5 @@ answered most asked bytes (Ok (i, unknown)) =
     else Err (by_depth (column_of bytes (left_of (scan 0 bytes))))
 
 -- what is read from the bytes in a scope: the tree of the asked form, or a fault
-abbrev pub read_bytes : (limit most : ℕ) (asked : Bool) → Scope → (bytes : List ℕ) → Result Tree Fault
+abbrev pub read_bytes : (limit most : ℕ) (asked : Bool) → Bindings → (bytes : List ℕ) → Result Tree Fault
 read_bytes limit most asked scope bytes = answered most asked bytes (run limit most asked scope (scan 0 bytes) (wanting []) None)

@@ -10,7 +10,7 @@ use Rattle.sorted_terms.specs.Sorts.{sort_of, term_depth}
 use Rattle.formulas.specs.Tree.{FormulaTree}
 use Rattle.formulas.specs.Sorts.{well_sorted, depth}
 use Rattle.ck_text.specs.Tokens.{Token, none, IsToken, AreTokens, Placed, scan, bare}
-use Rattle.ck_text.specs.Texts.{Text, tokens, IsText, Scope, term_of, formula_of, names_in, is_known}
+use Rattle.ck_text.specs.Texts.{Text, tokens, IsText, Bindings, whole_scope, term_of, formula_of, names_in, is_known}
 use Rattle.ck_text.specs.Machine.{read}
 use Rattle.ck_text.specs.Printing.{term_text, formula_text, printed, term_bytes, formula_bytes, TermHasText, FormulaHasText, HasSmallTermIntegers, HasSmallIntegers}
 
@@ -43,11 +43,11 @@ OneText = (limit : ℕ) (term : Bool) (a b : Text) → IsText limit term a → I
 
 -- a term means something exactly where each of its names does
 abbrev pub TermMeans : Type 0
-TermMeans = (limit : ℕ) (scope : Scope) (a : Text) → IsText limit true a → is_some (term_of scope a) ≡ list_all is_known (names_in scope a)
+TermMeans = (limit : ℕ) (scope : Bindings) (a : Text) → IsText limit true a → is_some (term_of scope a) ≡ list_all is_known (names_in scope a)
 
 -- so does a formula
 abbrev pub FormulaMeans : Type 0
-FormulaMeans = (limit : ℕ) (scope : Scope) (a : Text) → IsText limit false a → is_some (formula_of scope a) ≡ list_all is_known (names_in scope a)
+FormulaMeans = (limit : ℕ) (scope : Bindings) (a : Text) → IsText limit false a → is_some (formula_of scope a) ≡ list_all is_known (names_in scope a)
 
 -- each of the tokens can be written, or stands for none
 abbrev pub AreWritten : List Placed → Type 0
@@ -83,10 +83,6 @@ abbrev pub SortedFormulaHasText : Type 0
 SortedFormulaHasText =
     (names : List Decl) (variables : List Sort) (a : FormulaTree)
     → well_sorted names variables a ≡ true → HasSmallIntegers a → FormulaHasText (length names) (length variables) a
-
--- the scope of a whole text under declarations and so many variables
-abbrev pub whole_scope : List Decl → ℕ → Scope
-whole_scope names variables = record { names = names; variables = variables; bound = [] }
 
 -- the text of a term means the term
 abbrev pub TermTextMeans : Type 0

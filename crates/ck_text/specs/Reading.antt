@@ -7,7 +7,7 @@ use Rattle.sorted_terms.specs.Tree.{TermTree}
 use Rattle.formulas.specs.Tree.{FormulaTree}
 use Rattle.ck_text.specs.declared.token.Prefix.TheVariants as prefixes
 use Rattle.ck_text.specs.Tokens.{Token, Placed, scan, bare}
-use Rattle.ck_text.specs.Texts.{Joint, formulas, terms, joint, Lead, prefix, binder, Text, falsity, name, number, led, joined, closed, tokens, lead_tokens, IsText, Scope, under, first_of, meaning_of, term_of, formula_of}
+use Rattle.ck_text.specs.Texts.{Joint, formulas, terms, joint, Lead, prefix, binder, Text, falsity, name, number, led, joined, closed, tokens, lead_tokens, IsText, Bindings, under, first_of, meaning_of, term_of, formula_of}
 use Rattle.ck_text.specs.Laws.{StopsAt}
 
 -- # Levels
@@ -54,18 +54,18 @@ pub data Tree : Type 0 where
   of_formula : (a : FormulaTree) → Tree
 
 -- the tree that a text means, as a term or as a formula
-abbrev pub tree_of : (term : Bool) → Scope → Text → Option Tree
+abbrev pub tree_of : (term : Bool) → Bindings → Text → Option Tree
 tree_of true scope a = option_map of_term (term_of scope a)
 tree_of false scope a = option_map of_formula (formula_of scope a)
 
 -- the scope of the operand of a lead
-abbrev pub scope_after : Lead → Scope → Scope
+abbrev pub scope_after : Lead → Bindings → Bindings
 scope_after (prefix p) scope = scope
 scope_after (binder q bytes s) scope = under bytes scope
 
 -- The number of the first name that means nothing among the tokens of a text, where its first token has the
 -- number `first`.
-abbrev pub unknown_at : (first : ℕ) → Scope → Text → Option ℕ
+abbrev pub unknown_at : (first : ℕ) → Bindings → Text → Option ℕ
 unknown_at first scope (name bytes) = if is_some (meaning_of scope bytes) then None else Some first
 unknown_at first scope (led l a) = unknown_at (first + length (lead_tokens l)) (scope_after l scope) a
 unknown_at first scope (joined o a b) = first_of (unknown_at first scope a) (unknown_at (suc (first + length (tokens a))) scope b)
@@ -97,7 +97,7 @@ abbrev pub IsWritten : (limit : ℕ) (term : Bool) (bytes : List ℕ) → Text �
 IsWritten limit term bytes a = IsText limit term a × (tokens a ≡ tokens_of bytes)
 
 -- they are those of a text of at most `most` levels that means the tree
-abbrev pub Means : (limit most : ℕ) (term : Bool) → Scope → (bytes : List ℕ) → Tree → Type 0
+abbrev pub Means : (limit most : ℕ) (term : Bool) → Bindings → (bytes : List ℕ) → Tree → Type 0
 Means limit most term scope bytes tree =
     (a : Text) × IsWritten limit term bytes a × (text_levels term a ≤ most) × (tree_of term scope a ≡ Some tree)
 
@@ -113,7 +113,7 @@ IsDepthFault limit most term bytes column =
     (a : Text) × IsWritten limit term bytes a × (most < text_levels term a) × (column ≡ column_at bytes 0)
 
 -- the text has at most `most` levels, and the first of its names that means nothing stands at the column
-abbrev pub IsNameFault : (limit most : ℕ) (term : Bool) → Scope → (bytes : List ℕ) (column : ℕ) → Type 0
+abbrev pub IsNameFault : (limit most : ℕ) (term : Bool) → Bindings → (bytes : List ℕ) (column : ℕ) → Type 0
 IsNameFault limit most term scope bytes column =
     (a : Text) × IsWritten limit term bytes a × (text_levels term a ≤ most)
     × (k : ℕ) × (unknown_at 0 scope a ≡ Some k) × (column ≡ column_at bytes k)
@@ -125,7 +125,7 @@ pub data Fault : Type 0 where
   by_name : (column : ℕ) → Fault
 
 -- what reading the bytes comes to
-abbrev pub IsOutcome : (limit most : ℕ) (term : Bool) → Scope → (bytes : List ℕ) → Result Tree Fault → Type 0
+abbrev pub IsOutcome : (limit most : ℕ) (term : Bool) → Bindings → (bytes : List ℕ) → Result Tree Fault → Type 0
 IsOutcome limit most term scope bytes (Ok tree) = Means limit most term scope bytes tree
 IsOutcome limit most term scope bytes (Err (by_syntax column)) = IsSyntaxFault limit term bytes column
 IsOutcome limit most term scope bytes (Err (by_depth column)) = IsDepthFault limit most term bytes column

@@ -232,18 +232,22 @@ first_of None other = other
 
 -- What names stand for: the declared names, the number of variables in scope, and the names that the
 -- quantifiers around bind, the innermost first.
-pub record Scope : Type 0 where
+pub record Bindings : Type 0 where
   pub names : List Decl
   pub variables : ℕ
   pub bound : List (List ℕ)
 
+-- the scope of a whole text under declarations and so many variables
+abbrev pub whole_scope : List Decl → ℕ → Bindings
+whole_scope names variables = record { names = names; variables = variables; bound = [] }
+
 -- the scope under a quantifier that binds the name
-abbrev pub under : List ℕ → Scope → Scope
+abbrev pub under : List ℕ → Bindings → Bindings
 under bytes scope = record { names = scope.names; variables = scope.variables; bound = bytes ∷ scope.bound }
 
 -- A name means the innermost quantifier around it that binds it, else a variable in scope, of which 0 is
 -- the outermost, else the declared name; or nothing.
-abbrev pub meaning_of : Scope → List ℕ → Option TermTree
+abbrev pub meaning_of : Bindings → List ℕ → Option TermTree
 meaning_of scope bytes =
     first_of (option_map term.index (place_of bytes scope.bound))
     (first_of (option_map (λ k. term.index (length scope.bound + (scope.variables - 1 - k))) (variable_of scope.variables bytes))
@@ -270,7 +274,7 @@ joined_term (terms s) t u = both_of (term.binary s) t u
 joined_term (formulas c) t u = None
 
 -- the term that a text means in a scope; none where a name means nothing, and where the text is no term
-abbrev pub term_of : Scope → Text → Option TermTree
+abbrev pub term_of : Bindings → Text → Option TermTree
 term_of scope (truth b) = Some (term.boolean b)
 term_of scope falsity = None
 term_of scope (name bytes) = meaning_of scope bytes
@@ -294,7 +298,7 @@ joined_formula (terms s) a b t = option_map formula.holds t
 
 -- The formula that a text means in a scope; none where a name means nothing. A term t means that t holds,
 -- and `~a` that a implies `bottom`.
-abbrev pub formula_of : Scope → Text → Option FormulaTree
+abbrev pub formula_of : Bindings → Text → Option FormulaTree
 formula_of scope falsity = Some formula.bottom
 formula_of scope (led (prefix prefixes.Tilde) a) = option_map not_so (formula_of scope a)
 formula_of scope (led (binder q bytes s) a) =
@@ -305,7 +309,7 @@ formula_of scope (closed a) = formula_of scope a
 formula_of scope a = option_map formula.holds (term_of scope a)
 
 -- each name of a text in the order of its tokens, with the scope that it stands in
-abbrev pub names_in : Scope → Text → List (List ℕ × Scope)
+abbrev pub names_in : Bindings → Text → List (List ℕ × Bindings)
 names_in scope (name bytes) = (bytes, scope) ∷ []
 names_in scope (led (binder q bytes s) a) = names_in (under bytes scope) a
 names_in scope (led l a) = names_in scope a
@@ -314,5 +318,5 @@ names_in scope (closed a) = names_in scope a
 names_in scope a = []
 
 -- the name means something in its scope
-abbrev pub is_known : List ℕ × Scope → Bool
+abbrev pub is_known : List ℕ × Bindings → Bool
 is_known n = is_some (meaning_of n.1 n.0)

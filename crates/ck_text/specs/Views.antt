@@ -1,11 +1,11 @@
 -- What the reader's code keeps, as its definitions say it.
 use Rattle.ck_base.specs.declared.limits.TheConstants.{NESTING}
 use Rattle.std.specs.declared.result.Result.{Result}
-use Rattle.ck_text.specs.declared.reader.TextFault.{TextFault}
-use Rattle.ck_text.specs.declared.reader.TextFault.TheVariants as faults
+use Rattle.ck_text.specs.declared.text_fault.TextFault.{TextFault}
+use Rattle.ck_text.specs.declared.text_fault.TextFault.TheVariants as faults
 use Rattle.ck_text.specs.declared.reader.Stop.{Stop}
 use Rattle.ck_text.specs.declared.reader.Stop.TheVariants as stops
-use Rattle.ck_text.specs.declared.reader.Placed as code_placed
+use Rattle.ck_text.specs.declared.scan.Placed as code_placed
 use Rattle.std.specs.Prelude.{◌≡◌, Ok, Err, ℕ, ◌<◌, ◌^◌, Bool, false, List, [], ◌∷◌, map, reverse}
 use Rattle.sorted_terms.specs.Tree.{term_tree}
 use Rattle.formulas.specs.Tree.{formula_tree}
@@ -17,17 +17,16 @@ use Rattle.ck_text.specs.declared.items.Lead.TheVariants as leads
 use Rattle.ck_text.specs.declared.items.Held as code_held
 use Rattle.ck_text.specs.declared.items.Held.TheVariants as helds
 use Rattle.ck_text.specs.declared.items.Frame as code_frame
-use Rattle.ck_base.specs.declared.decl.Decl.{Decl}
-use Rattle.ck_text.specs.Texts.{Lead, prefix, binder, Scope}
+use Rattle.ck_text.specs.Texts.{Lead, prefix, binder}
 use Rattle.ck_text.specs.Reading.{Tree, of_term, of_formula, Fault, by_syntax, by_depth, by_name}
-use Rattle.ck_text.specs.Items.{Item, Held, leading, operand, parenthesis, Frame, State, wanting, having, naming, named, sorting, sorted, takes, opened}
+use Rattle.ck_text.specs.Items.{Item, Held, leading, operand, parenthesis, Frame, State, wanting, having, naming, named, sorting, sorted, takes, opened, tree_asked}
 use Rattle.ck_text.specs.Tokens.{Token, Placed, word, number, truth, sort, quantifier, joining, mark, none}
 use Rattle.std.specs.declared.option.Option.{Option}
 use Rattle.std.specs.Option.{option_map}
 use Rattle.ck_text.specs.declared.reader.Mode as code_mode
 use Rattle.ck_text.specs.declared.reader.Mode.TheVariants as modes
-use Rattle.ck_text.specs.declared.reader.Token as code_token
-use Rattle.ck_text.specs.declared.reader.Token.TheVariants as tokens
+use Rattle.ck_text.specs.declared.scan.Token as code_token
+use Rattle.ck_text.specs.declared.scan.Token.TheVariants as tokens
 
 abbrev pub tree : code_tree.Tree → Tree
 tree (trees.Term t) = of_term (term_tree t)
@@ -80,10 +79,6 @@ token (tokens.Joining o) = joining o
 token (tokens.Mark m) = mark m
 token tokens.None = none
 
--- the scope of a whole text
-abbrev pub scope : List Decl → ℕ → Scope
-scope names variables = record { names = names; variables = variables; bound = [] }
-
 -- a number is below 2^127
 abbrev pub IsSmall : Token → Type 0
 IsSmall (number n) = n < 2 ^ 127
@@ -110,10 +105,10 @@ Runs (Ok x) answer = answer ≡ Ok (item x.0, x.1)
 Runs (Err (stops.At left)) answer = answer ≡ Err left
 Runs (Err stops.NoMemory) answer = Unit {0}
 
--- what the code answers is the outcome
-abbrev pub Reads : Result code_tree.Tree TextFault → Result Tree Fault → Type 0
-Reads (Ok t) outcome = outcome ≡ Ok (tree t)
-Reads (Err (faults.Syntax column)) outcome = outcome ≡ Err (by_syntax column)
-Reads (Err (faults.Depth column)) outcome = outcome ≡ Err (by_depth column)
-Reads (Err (faults.Name column)) outcome = outcome ≡ Err (by_name column)
-Reads (Err faults.NoMemory) outcome = Unit {0}
+-- what the code answers, an item of the asked form or a fault, is the outcome
+abbrev pub Reads : (asked : Bool) → Result code_item.Item TextFault → Result Tree Fault → Type 0
+Reads asked (Ok i) outcome = outcome ≡ Ok (tree_asked asked (item i))
+Reads asked (Err (faults.Syntax column)) outcome = outcome ≡ Err (by_syntax column)
+Reads asked (Err (faults.Deep column)) outcome = outcome ≡ Err (by_depth column)
+Reads asked (Err (faults.Unknown column)) outcome = outcome ≡ Err (by_name column)
+Reads asked (Err faults.NoMemory) outcome = Unit {0}

@@ -8,15 +8,23 @@
 //! `Printers.antt` words for parts of the printer.
 #![tactic(auto)]
 
-pub mod items;
+mod digits;
+mod items;
 pub mod laws;
-pub mod names;
+mod names;
 mod printing;
-pub mod reader;
+mod reader;
+mod reading;
+mod scan;
+mod text_fault;
 pub mod token;
 
 pub use printing::{print_formula, print_term};
+pub use reading::{read_formula, read_term};
+pub use text_fault::TextFault;
 pub use token::{Mark, Prefix, Quantifier, Sign};
 
+#[cfg(test)]
+mod reading_tests;
 #[cfg(test)]
 mod tests;

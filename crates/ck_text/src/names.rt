@@ -5,11 +5,11 @@ ghost use Rattle.std.specs.List.{list_all};
 ghost use Rattle.std.specs.Option.{option_map};
 ghost use Rattle.ck_base.specs.Names.{is_digit, number_of};
 ghost use Rattle.sorted_terms.specs.Tree.{term_tree};
-ghost use Rattle.ck_text.specs.Tokens.{value_from};
 ghost use Rattle.ck_text.specs.Texts as grammar;
 ghost use Rattle.ck_text.specs.Items as spec;
 ghost use Rattle.ck_text.specs.Views as views;
 
+use crate::digits::{is_digit, value};
 use crate::items::{Frame, Held, Lead};
 use ck_base::Decls;
 use sorted_terms::Term;
@@ -52,12 +52,6 @@ fn declared(names: &Decls, name: &[u8]) -> Option<u32>
     None
 }
 
-fn is_digit(b: u8) -> bool
-    ensures { result ≡ is_digit b }
-{
-    b.is_ascii_digit()
-}
-
 fn are_digits(bytes: &[u8]) -> bool
     ensures { result ≡ list_all is_digit bytes.now }
 {
@@ -74,29 +68,13 @@ fn is_decimal(digits: &[u8]) -> bool
     }
 }
 
-// The value of the digits, where it is below 2^32.
-fn value(digits: &[u8]) -> Option<u32>
-    requires { list_all is_digit digits.now ≡ true }
-    ensures { result ≡ (if nat_lt (value_from 0 digits.now) (2 ^ 32) then Some (value_from 0 digits.now) else None) }
-{
-    let mut value: u32 = 0;
-    let mut rest = digits;
-    while let [digit, more @ ..] = rest {
-        value = value
-            .checked_mul(10)?
-            .checked_add(u32::from(*digit - b'0'))?;
-        rest = more;
-    }
-    Some(value)
-}
-
 // The number of the variable that is written `_k`.
 fn variable(variables: u32, name: &[u8]) -> Option<u32>
     ensures { result ≡ grammar.variable_of variables name.now }
 {
     match name {
         [b'_', digits @ ..] if is_decimal(digits) => match value(digits) {
-            Some(k) if k < variables => Some(k),
+            Some(k) if k < u128::from(variables) => Some(k as u32),
             _ => None,
         },
         _ => None,
@@ -107,7 +85,7 @@ fn variable(variables: u32, name: &[u8]) -> Option<u32>
 pub(crate) fn meaning(names: &Decls, variables: u32, frames: &[Frame], name: &[u8]) -> Option<Term>
     requires few { length frames.now < 2 ^ 31 }
     requires variables { variables < 2 ^ 31 }
-    ensures { option_map term_tree result ≡ grammar.meaning_of (spec.scope_at (views.scope names.now variables) (views.stack frames.now)) name.now }
+    ensures { option_map term_tree result ≡ grammar.meaning_of (spec.scope_at (grammar.whole_scope names.now variables) (views.stack frames.now)) name.now }
 {
     match bound_place(frames, name) {
         Ok(k) => Some(Term::Bound(k)),

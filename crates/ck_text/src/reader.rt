@@ -9,31 +9,19 @@ ghost use Rattle.ck_text.specs.Items as spec;
 ghost use Rattle.ck_text.specs.Texts as grammar;
 ghost use Rattle.ck_text.specs.Views as views;
 ghost use Rattle.ck_text.specs.Reading as reading;
-ghost use Rattle.ck_text.specs.Tokens.{scan};
 
 use crate::items::{
-    Frame, Held, Item, Lead, Tree, as_formula, as_term, closed, falsity, height, lead_level, leaf,
-    number, on_terms, reduced, right_want,
+    Frame, Held, Item, Lead, Tree, closed, falsity, height, lead_level, leaf, number, on_terms,
+    reduced, right_want,
 };
 use crate::names::meaning;
+use crate::scan::{Placed, Token, tokens};
+use crate::text_fault::TextFault;
 use crate::token::{Mark, Prefix, Quantifier, Sign};
 use ck_base::limits::{FORMULA_DEPTH, NESTING};
 use ck_base::{Decls, List, NoMemory, Sort};
 use sorted_terms::Term;
 use std::alloc::Global;
-
-/// A token.
-#[derive(Clone, Copy)]
-pub(crate) enum Token<'a> {
-    Word(&'a [u8]),
-    Number(u128),
-    Truth(bool),
-    Sort(Sort),
-    Quantifier(Quantifier),
-    Joining(Sign),
-    Mark(Mark),
-    None,
-}
 
 /// What comes next.
 #[derive(Drop)]
@@ -248,7 +236,7 @@ fn operand<'a>(
     requires variables { variables < 2 ^ 31 }
     requires small { views.IsSmall (views.token t) }
     ensures few { OnOk result (length stack.new ≤ length stack.old + 1) }
-    ensures state { IfOk result (λ m. views.maybe_state m stack.new ≡ spec.step NESTING FORMULA_DEPTH asked (views.scope names.now variables) (spec.wanting (views.stack stack.old)) (views.token t.entry)) }
+    ensures state { IfOk result (λ m. views.maybe_state m stack.new ≡ spec.step NESTING FORMULA_DEPTH asked (grammar.whole_scope names.now variables) (spec.wanting (views.stack stack.old)) (views.token t.entry)) }
 {
     match t {
         Token::Truth(b) => Ok(Some(Mode::Having(leaf(Term::Truth(b))))),
@@ -315,7 +303,7 @@ fn step<'a>(
     requires small { views.IsSmall (views.token t) }
     requires room { views.HasRoom (views.state mode stack.old) }
     ensures few { OnOk result (length stack.new ≤ length stack.old + 1) }
-    ensures state { IfOk result (λ m. views.maybe_state m stack.new ≡ spec.step NESTING FORMULA_DEPTH asked (views.scope names.now variables) (views.state mode.entry stack.old) (views.token t.entry)) }
+    ensures state { IfOk result (λ m. views.maybe_state m stack.new ≡ spec.step NESTING FORMULA_DEPTH asked (grammar.whole_scope names.now variables) (views.state mode.entry stack.old) (views.token t.entry)) }
 {
     match mode {
         Mode::Wanting => operand(alloc, names, variables, asked, stack, t),
@@ -342,13 +330,6 @@ fn step<'a>(
             _ => Ok(None),
         },
     }
-}
-
-/// A token, and how many bytes there are from its first one to the end of the text.
-#[derive(Clone, Copy)]
-pub(crate) struct Placed<'a> {
-    pub(crate) left: usize,
-    pub(crate) token: Token<'a>,
 }
 
 /// What stops the reader: a token, by its place, or memory.
@@ -378,7 +359,7 @@ fn unknown_here(
 ) -> Option<usize>
     requires few { length frames.now < 2 ^ 31 }
     requires variables { variables < 2 ^ 31 }
-    ensures { result ≡ spec.unknown_here (views.scope names.now variables) (views.state mode.now frames.now) (views.token p.entry.token) p.entry.left }
+    ensures { result ≡ spec.unknown_here (grammar.whole_scope names.now variables) (views.state mode.now frames.now) (views.token p.entry.token) p.entry.left }
 {
     match mode {
         Mode::Wanting => match p.token {
@@ -403,7 +384,7 @@ fn first_unknown(
 ) -> Option<usize>
     requires few { length frames.now < 2 ^ 31 }
     requires variables { variables < 2 ^ 31 }
-    ensures { result ≡ grammar.first_of unknown (spec.unknown_here (views.scope names.now variables) (views.state mode.now frames.now) (views.token p.entry.token) p.entry.left) }
+    ensures { result ≡ grammar.first_of unknown (spec.unknown_here (grammar.whole_scope names.now variables) (views.state mode.now frames.now) (views.token p.entry.token) p.entry.left) }
 {
     match unknown {
         Some(left) => Some(left),
@@ -442,7 +423,7 @@ fn run(
     requires few { length placed.now < 2 ^ 31 }
     requires variables { variables < 2 ^ 31 }
     requires small { views.AreSmall (map views.placed placed.now) }
-    ensures { views.Runs result (spec.run NESTING FORMULA_DEPTH asked (views.scope names.now variables) (map views.placed placed.now) (spec.wanting []) None) }
+    ensures { views.Runs result (spec.run NESTING FORMULA_DEPTH asked (grammar.whole_scope names.now variables) (map views.placed placed.now) (spec.wanting []) None) }
 {
     let mut stack = List::new(alloc);
     let mut mode = Mode::Wanting;
@@ -462,20 +443,11 @@ fn run(
     }
 }
 
-/// What stops a reader of a text, with the column, from 1.
-#[derive(Clone, Copy, Debug, PartialEq, Eq)]
-pub enum TextFault {
-    Syntax(usize),
-    Depth(usize),
-    Name(usize),
-    NoMemory,
-}
-
-fn column(bytes: &[u8], left: usize) -> usize
+fn column(bytes: &[u8], left: usize) -> u32
     requires { length bytes.now < 2 ^ 31 }
     ensures { result ≡ reading.column_of bytes.now left }
 {
-    (bytes.len() + 1).saturating_sub(left)
+    (bytes.len() + 1).saturating_sub(left) as u32
 }
 
 fn left_of(placed: &[Placed]) -> usize
@@ -494,41 +466,35 @@ fn levels(asked: bool, i: &Item) -> u32
     if asked { i.levels } else { height(i) }
 }
 
-fn tree(asked: bool, i: Item) -> Tree
-    ensures { views.tree result ≡ spec.tree_asked asked (views.item i) }
-{
-    if asked {
-        Tree::Term(as_term(i.tree))
-    } else {
-        Tree::Formula(as_formula(i.tree))
-    }
-}
-
-/// The tree of the asked form that the bytes mean, by their tokens.
-pub(crate) fn read(
+/// The item of the asked form that the bytes are, or why they are none.
+pub(crate) fn item(
     alloc: Global,
     names: &Decls,
     variables: u32,
     asked: bool,
     bytes: &[u8],
-    placed: &[Placed],
-) -> Result<Tree, TextFault>
+) -> Result<Item, TextFault>
     requires few { length bytes.now < 2 ^ 31 }
-    requires tokens { map views.placed placed.now ≡ scan 0 bytes.now }
     requires variables { variables < 2 ^ 31 }
-    ensures { views.Reads result (spec.read_bytes NESTING FORMULA_DEPTH asked (views.scope names.now variables) bytes.now) }
+    ensures { views.Reads asked result (spec.read_bytes NESTING FORMULA_DEPTH asked (grammar.whole_scope names.now variables) bytes.now) }
 {
-    match run(alloc, names, variables, asked, placed) {
+    let placed = tokens(alloc, bytes)?;
+    match run(alloc, names, variables, asked, placed.as_slice()) {
         Ok((i, unknown)) => {
             if levels(asked, &i) > FORMULA_DEPTH {
-                return Err(TextFault::Depth(column(bytes, left_of(placed))));
+                let column = column(bytes, left_of(placed.as_slice()));
+                return Err(TextFault::Deep { column });
             }
             match unknown {
-                Some(left) => Err(TextFault::Name(column(bytes, left))),
-                None => Ok(tree(asked, i)),
+                Some(left) => Err(TextFault::Unknown {
+                    column: column(bytes, left),
+                }),
+                None => Ok(i),
             }
         }
-        Err(Stop::At(left)) => Err(TextFault::Syntax(column(bytes, left))),
+        Err(Stop::At(left)) => Err(TextFault::Syntax {
+            column: column(bytes, left),
+        }),
         Err(Stop::NoMemory) => Err(TextFault::NoMemory),
     }
 }

@@ -15,7 +15,7 @@ const Y: Term = Term::Var(1);
 const B: Term = Term::Var(2);
 
 /// The declarations `x` and `y` of sort int and `b` of sort bool.
-fn names(alloc: Global) -> Result<Decls, DeclFault> {
+pub(crate) fn names(alloc: Global) -> Result<Decls, DeclFault> {
     let mut decls = Decls::new(alloc);
     let _x = decls.add("x", Kind::Variable, Sort::Int)?;
     let _y = decls.add("y", Kind::Variable, Sort::Int)?;

@@ -1,0 +1,12 @@
+use Rattle.std.proofs.Common.{length, map, sym, subst, ap, arith}
+use Rattle.ck_text.specs.Views as views
+use Rattle.ck_text.proofs.Smalls.{smalls, scan_length, placed_length}
+use Rattle.ck_text.proofs.reader.item.Goals as goal
+
+pub run-requires-clause-few : goal.run-requires-clause-few
+run-requires-clause-few c =
+    omega (arith, c.requires.few, ap length c.as_slice.ensures, placed_length c.in_ok-placed.placed, ap length c.in_ok-placed.ensures, scan_length 0 c.args.bytes.now)
+
+pub run-requires-clause-small : goal.run-requires-clause-small
+run-requires-clause-small c =
+    subst (λ x. views.AreSmall (map views.placed x)) (sym c.as_slice.ensures) (subst views.AreSmall (sym c.in_ok-placed.ensures) (smalls c.args.bytes.now))
