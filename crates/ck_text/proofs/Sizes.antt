@@ -1,5 +1,5 @@
 -- How large the trees are that texts mean.
-use Rattle.std.proofs.Common.{◌≡◌, ℕ, ◌+◌, ◌*◌, ◌≤◌, true, false, List, [], ◌∷◌, length, Option, Some, None, refl, ap, ◌∙◌, arith}
+use Rattle.std.proofs.Common.{◌≡◌, ℕ, ◌*◌, ◌≤◌, true, false, List, length, Option, Some, None, refl, ap, arith}
 use Rattle.std.proofs.lemmas.Bool.{le-leb}
 use Rattle.std.specs.Option.{option_map}
 use Rattle.sorted_terms.specs.Tree.{TermTree}
@@ -8,7 +8,7 @@ use Rattle.formulas.specs.Tree.{FormulaTree}
 use Rattle.formulas.specs.Sorts.{size, depth, fits}
 use Rattle.ck_text.specs.Tokens.{scan, bare}
 use Rattle.ck_text.specs.Texts.{Text, tokens, Bindings, term_of, formula_of}
-use Rattle.ck_text.specs.Reading.{Tree, of_term, of_formula, IsWritten, Means}
+use Rattle.ck_text.specs.Reading.{of_term, of_formula, Means}
 use Rattle.ck_text.proofs.Smalls.{scan_length}
 use Rattle.ck_text.proofs.Depths.{term_levels_are, formula_levels_are}
 use Rattle.ck_text.proofs.Outcomes.{bare_length}
