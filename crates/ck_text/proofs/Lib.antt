@@ -31,3 +31,4 @@ pub mod ProofCompleting
 pub mod ProofRereading
 pub mod ProofExactness
 pub mod ProofMeanings
+pub mod ProofOutcomes
