@@ -34,3 +34,4 @@ pub mod ProofCompleting
 pub mod ProofRereading
 pub mod ProofExactness
 pub mod ProofMeanings
+pub mod ProofOutcomes

@@ -12,3 +12,4 @@ pub mod ProofTexts
 pub mod ProofMachine
 pub mod ProofLaws
 pub mod ProofReading
+pub mod ProofReadingLaws

@@ -2,6 +2,7 @@
 
 ghost use Rattle.ck_text.specs.Laws.{FormulaMeans, FormulaReadsBack, FormulaTextIs, FormulaTextMeans, OneText, PrintedScans, ReadsExactly, SortedFormulaHasText, SortedTermHasText, TermMeans, TermReadsBack, TermTextIs, TermTextMeans, TokensAreWritten};
 ghost use Rattle.ck_text.specs.ProofLaws.{OneProof, ProofMeansKnown, ReadsProofsExactly};
+ghost use Rattle.ck_text.specs.ProofReadingLaws.{OneProofOutcome};
 ghost use Rattle.ck_text.specs.ReadingLaws.{FormulaLevels, FormulaNodes, OneOutcome, ReadsOutcomes, TermLevels, TermNodes, UnknownNames};
 
 /// The reader reads the tokens of every text of the asked form, and no others, and where it stops no text
@@ -87,4 +88,9 @@ pub fn one_proof()
 /// A proof means a proof term exactly where no name and no `#k` in it is the first that means nothing.
 pub fn proof_means_by_names()
     ensures { ProofMeansKnown }
+{}
+
+/// Reading a text as a proof comes to one of its outcomes, and to no other.
+pub fn one_proof_outcome()
+    ensures { OneProofOutcome }
 {}
