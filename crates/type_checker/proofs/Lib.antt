@@ -1,5 +1,1 @@
-pub mod Sound
-pub mod Single
 pub mod Same
-pub mod Sides
-pub mod Exact
