@@ -4,3 +4,5 @@ pub mod Place
 pub mod Same
 pub mod Rules
 pub mod Walk
+pub mod Found
+pub mod Scope
