@@ -1,5 +1,5 @@
 -- The computed test of two formulas tells whether they are the same.
-use Rattle.std.proofs.Common.{◌≡◌, ℤ, Bool, true, false, ◌&&◌, nat_eq, refl, sym, ap, subst, ◌∙◌, IsTrue, ◌↔◌, arith}
+use Rattle.std.proofs.Common.{◌≡◌, ℤ, Bool, true, false, ◌&&◌, nat_eq, refl, sym, ap, subst, IsTrue, ◌↔◌, arith}
 use Rattle.std.proofs.lemmas.Bool.{and_parts, and_from, eqb-true, eq-eqb}
 use Rattle.std.proofs.lemmas.Int.{ints}
 use lib.Signed.{le_z}
@@ -114,12 +114,3 @@ same_not false a b e h = refl
 pub same_is : (t : Bool) (a b : FormulaTree) → (IsTrue t ↔ (a ≡ b)) → t ≡ same_formula a b
 same_is true a b h = let e : a ≡ b = h.0 refl in sym (subst (λ x. same_formula a x ≡ true) e (formula_same a))
 same_is false a b h = same_not (same_formula a b) a b refl (λ e. apart (h.1 e))
-
--- the order of the two does not matter
-pub same_either_way : (a b : FormulaTree) → same_formula a b ≡ same_formula b a
-same_either_way a b = by (same_formula a b) (same_formula b a) refl refl where
-  by : (t u : Bool) → same_formula a b ≡ t → same_formula b a ≡ u → t ≡ u
-  by true true e f = refl
-  by false false e f = refl
-  by true false e f = absurd (apart (sym (subst (λ x. same_formula b x ≡ false) (formula_is a b e) f) ∙ formula_same b))
-  by false true e f = absurd (apart (sym (subst (λ x. same_formula a x ≡ false) (formula_is b a f) e) ∙ formula_same a))

@@ -105,7 +105,7 @@ pub fn matches(a: &Formula, b: &Found) -> bool
 }
 
 /// The two found formulas are the same. It takes no memory.
-#[tactic(auto, using(crate::proofs::Same::same_either_way))]
+#[tactic(auto, using(crate::proofs::Symmetry::same_either_way))]
 pub fn same_found(a: &Found, b: &Found) -> bool
     ensures { result ≡ same_formula (found_tree a.now) (found_tree b.now) }
 {
