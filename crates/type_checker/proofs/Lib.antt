@@ -1,4 +1,6 @@
 pub mod Same
+pub mod Symmetry
+pub mod Raising
 pub mod Sides
 pub mod Sorted
 pub mod Rooms
