@@ -4,5 +4,6 @@ pub mod Raising
 pub mod Sides
 pub mod Sorted
 pub mod Rooms
+pub mod Ruled
 pub mod Sound
 pub mod Single

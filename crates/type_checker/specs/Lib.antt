@@ -5,4 +5,5 @@ pub mod Same
 pub mod Rules
 pub mod Walk
 pub mod Found
+pub mod Gives
 pub mod Scope

@@ -6,7 +6,11 @@
 
 mod fitting;
 mod heads;
+mod instances;
+mod leaves;
+mod making;
 mod nodes;
+mod rules;
 mod scope;
 mod typed;
 pub mod untyped;
