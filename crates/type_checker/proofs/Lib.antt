@@ -4,3 +4,7 @@ pub mod Sorted
 pub mod Rooms
 pub mod Sound
 pub mod Single
+pub mod Lowering
+pub mod Subproofs
+pub mod Exact
+pub mod Firsts
