@@ -7,3 +7,8 @@ pub mod Rooms
 pub mod Ruled
 pub mod Sound
 pub mod Single
+pub mod Lowering
+pub mod Subproofs
+pub mod Exact
+pub mod Firsts
+pub mod Answered

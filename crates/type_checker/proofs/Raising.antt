@@ -26,30 +26,6 @@ shift_none (holds t) above = ap (λ t. holds t) (term_none t above)
 shift_none (joined c a b) above = cc (shift_none a above, shift_none b above)
 shift_none (quantified q s a) above = ap (λ a. quantified q s a) (shift_none a (suc above))
 
--- a shift by one after a shift is one shift
-index_again : (k by above : ℕ) → (if nat_lt (if nat_lt k above then k else k + by) above then (if nat_lt k above then k else k + by) else (if nat_lt k above then k else k + by) + 1) ≡ (if nat_lt k above then k else k + (by + 1))
-index_again k by above =
-    ⊎_elim (λ (h : k < above). rw (lt-ltb k above h) (rw (lt-ltb k above h) refl))
-    (λ (h : above ≤ k).
-      let past : above ≤ k + by = omega arith in
-      let sum : k + by + 1 ≡ k + (by + 1) = omega arith in
-      rw (le-ltb k above h) (rw (le-ltb (k + by) above past) sum))
-    (cases_lt k above)
-
-term_again : (t : TermTree) (by above : ℕ) → shift_term (shift_term t by above) 1 above ≡ shift_term t (by + 1) above
-term_again (name x) by above = refl
-term_again (index k) by above = ap (λ k. index k) (index_again k by above)
-term_again (integer n) by above = refl
-term_again (boolean b) by above = refl
-term_again (unary sign t) by above = ap (λ t. unary sign t) (term_again t by above)
-term_again (binary sign s t) by above = cc (term_again s by above, term_again t by above)
-
-pub shift_again : (a : FormulaTree) (by above : ℕ) → shift (shift a by above) 1 above ≡ shift a (by + 1) above
-shift_again bottom by above = refl
-shift_again (holds t) by above = ap (λ t. holds t) (term_again t by above)
-shift_again (joined c a b) by above = cc (shift_again a by above, shift_again b by above)
-shift_again (quantified q s a) by above = ap (λ a. quantified q s a) (shift_again a by (suc above))
-
 -- a raised hypothesis
 pub get_raised : (hypotheses : List FormulaTree) (k : ℕ) → slice_get (raised hypotheses) k ≡ option_map (λ a. shift a 1 0) (slice_get hypotheses k)
 get_raised [] k = refl

@@ -49,7 +49,7 @@ pub fn hypothesis<'f>(
 }
 
 // The hypothesis of that index as it stood, and how many variables were bound since.
-#[tactic(auto, using(crate::proofs::Raising::get_raised, crate::proofs::Raising::shift_none, crate::proofs::Raising::shift_again))]
+#[tactic(auto, using(crate::proofs::Raising::get_raised, crate::proofs::Raising::shift_none, crate::proofs::Lowering::shifted_again))]
 fn held<'f, 's>(scope: &Scope<'f, 's>, index: u32) -> Option<(Assumed<'f, 's>, u32)>
     requires { variables_over scope.now < 2 ^ 32 }
     ensures found { option_map (λ r. shifted (assumed_tree r.0) r.1 0) result ≡ slice_get (hypotheses_under scope.now) index }
