@@ -87,7 +87,7 @@ fn newest<'a>(context: &'a Context, index: u32) -> Option<&'a Formula>
 #[tactic(auto, using(crate::proofs::Raising::shift_none))]
 fn raised<'f>(alloc: Global, assumed: Assumed<'f, '_>, by: u32) -> Result<Found<'f>, NoMemory>
     requires { HasIndicesBelow (2 ^ 32) (shifted (assumed_tree assumed) by 0) }
-    ensures { IfOk result (λ r. found_tree r ≡ shifted (assumed_tree assumed) by 0) }
+    ensures { IfOk result (λ r. found_tree r ≡ shifted (assumed_tree assumed.entry) by 0) }
 {
     match assumed {
         Assumed::Given(a) => raised_known(alloc, a, by),

@@ -105,15 +105,14 @@ pub fn matches(a: &Formula, b: &Found) -> bool
 }
 
 /// The two found formulas are the same. It takes no memory.
-#[tactic(auto, using(crate::proofs::Symmetry::same_either_way))]
 pub fn same_found(a: &Found, b: &Found) -> bool
     ensures { result ≡ same_formula (found_tree a.now) (found_tree b.now) }
 {
     match (a, b) {
         (Found::Known(a), _) => matches(a, b),
         (Found::Built(a), _) => matches(a, b),
-        (_, Found::Known(b)) => matches(b, a),
-        (_, Found::Built(b)) => matches(b, a),
+        (_, Found::Known(b)) => is_found(a, b),
+        (_, Found::Built(b)) => is_found(a, b),
         (Found::Imp(a, b), Found::Imp(c, d)) => same_found(a, c) && same_found(b, d),
         (Found::Conj(a, b), Found::Conj(c, d)) => same_found(a, c) && same_found(b, d),
         (Found::Disj(a, b), Found::Disj(c, d)) => same_found(a, c) && same_found(b, d),
@@ -121,6 +120,14 @@ pub fn same_found(a: &Found, b: &Found) -> bool
         (Found::Ex(r, a), Found::Ex(s, b)) => *r == *s && same_found(a, b),
         _ => false,
     }
+}
+
+// The two are the same formula.
+#[tactic(auto, using(crate::proofs::Symmetry::same_either_way))]
+fn is_found(a: &Found, b: &Formula) -> bool
+    ensures { result ≡ same_formula (found_tree a.now) (formula_tree b.now) }
+{
+    matches(b, a)
 }
 
 fn is_same(a: &Formula, b: &Formula) -> bool
