@@ -195,7 +195,7 @@ module _ (names : List Decl) (variables : List Sort) (hypotheses : List FormulaT
 
   -- the whole, after a part all of whose subproofs have formulas
   after_part : (Part : Numbered) (count : ℕ) → proof_nodes whole ≡ 1 + count → AllTyped names Part → k ≡ n + count → FirstAt names (Either Part (IsWhole variables hypotheses whole)) n k
-  after_part Part count e part at = (count, at, first_back names Part (IsWhole variables hypotheses whole) count part (first_whole names variables hypotheses whole count (sym e) none))
+  after_part Part count e part at = (count, at, first_back names Part (IsWhole variables hypotheses whole) count part (first_whole names variables hypotheses whole count (omega (arith, e)) none))
 
   -- a part before the whole
   in_part : (Part : Numbered) (count : ℕ) → count < proof_nodes whole → Below count Part → FirstAt names Part n k → FirstAt names (Either Part (IsWhole variables hypotheses whole)) n k
@@ -230,23 +230,23 @@ front_place names variables hypotheses whole n k Front Middle count h front midd
     (f.0, f.1, first_front names Front (Either Middle (IsWhole variables hypotheses whole)) count f.0 front (past_either count Middle (IsWhole variables hypotheses whole) middle (past_whole count variables hypotheses whole h)) f.2)
 
 -- a walk of two parts, and then the rule of the whole
-two_place : (names : List Decl) (variables : List Sort) (hypotheses : List FormulaTree) (whole : ProofTree) (n k : ℕ) (w : Walk) (then : ℕ → Walk) (rule : FormulaTree → FormulaTree → Option FormulaTree) (Front Middle : Numbered) (count more : ℕ)
+two_place : (names : List Decl) (variables : List Sort) (hypotheses : List FormulaTree) (whole : ProofTree) (n k : ℕ) (w : Walk) (onward : ℕ → Walk) (rule : FormulaTree → FormulaTree → Option FormulaTree) (Front Middle : Numbered) (count more : ℕ)
     → ((a : FormulaTree) → Has names variables hypotheses whole a → ⊥)
     → proof_nodes whole ≡ 1 + more → count ≤ more → Below count Front → Past count Middle → Below more Middle
     → (w ≡ Err k → FirstAt names Front n k)
     → ((f : FormulaTree) (m : ℕ) → w ≡ Ok (f, m) → AllTyped names Front × (m ≡ n + count))
-    → ((m : ℕ) → m ≡ n + count → then m ≡ Err k → FirstAt names Middle n k)
-    → ((m : ℕ) → m ≡ n + count → (g : FormulaTree) (l : ℕ) → then m ≡ Ok (g, l) → AllTyped names Middle × (l ≡ n + more))
-    → continued w (λ f m. continued (then m) (λ g l. found (rule f g) l)) ≡ Err k
+    → ((m : ℕ) → m ≡ n + count → onward m ≡ Err k → FirstAt names Middle n k)
+    → ((m : ℕ) → m ≡ n + count → (g : FormulaTree) (l : ℕ) → onward m ≡ Ok (g, l) → AllTyped names Middle × (l ≡ n + more))
+    → continued w (λ f m. continued (onward m) (λ g l. found (rule f g) l)) ≡ Err k
     → FirstAt names (Either Front (Either Middle (IsWhole variables hypotheses whole))) n k
-two_place names variables hypotheses whole n k w then rule Front Middle count more none nodes few front past middle fault given fault_middle given_middle e =
+two_place names variables hypotheses whole n k w onward rule Front Middle count more none nodes few front past middle fault given fault_middle given_middle e =
     ⊎_elim
     (λ (h : w ≡ Err k). front_place names variables hypotheses whole n k Front Middle count (omega (arith, nodes, few)) front past (fault h))
-    (λ (h : (f : FormulaTree) × (m : ℕ) × (w ≡ Ok (f, m)) × (continued (then m) (λ g l. found (rule f g) l) ≡ Err k)).
+    (λ (h : (f : FormulaTree) × (m : ℕ) × (w ≡ Ok (f, m)) × (continued (onward m) (λ g l. found (rule f g) l) ≡ Err k)).
     let g = given h.0 h.1 h.2 in
     first_later names n k Front (Either Middle (IsWhole variables hypotheses whole)) g.0
-    (one_place names variables hypotheses whole n k (then h.1) (rule h.0) Middle more none nodes middle (fault_middle h.1 g.1) (given_middle h.1 g.1) h.3))
-    (continued_err w (λ f m. continued (then m) (λ g l. found (rule f g) l)) k e)
+    (one_place names variables hypotheses whole n k (onward h.1) (rule h.0) Middle more none nodes middle (fault_middle h.1 g.1) (given_middle h.1 g.1) h.3))
+    (continued_err w (λ f m. continued (onward m) (λ g l. found (rule f g) l)) k e)
 
 -- what the walk tells of a part that has a formula
 given_part : (names : List Decl) (variables : List Sort) (hypotheses : List FormulaTree) (p : ProofTree) (n : ℕ) (f : FormulaTree) (m : ℕ)
