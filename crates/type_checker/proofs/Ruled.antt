@@ -112,7 +112,11 @@ hypotheses_room names variables (a ∷ hypotheses) h few =
 
 -- an instance at a term of its sort that fits has indices below 2^32
 pub given_room : (names : List Decl) (variables : List Sort) (s : Sort) (a : FormulaTree) (t : TermTree) → well_sorted names (s ∷ variables) a ≡ true → has_sort (sort_of names variables t) s ≡ true → length variables < 2 ^ 31 + 2 ^ 30 → fits (instance a t 0) ≡ true → HasIndicesBelow (2 ^ 32) (instance a t 0)
-given_room names variables s a t sorted of few fit = fitting_instance_room names variables s a t sorted fit (sort_known (sort_of names variables t) s of) few
+given_room names variables s a t sorted of few fit = fitting_instance_room names variables s a t sorted fit (sort_known (sort_of names variables t) s of) (omega (arith, few))
+
+-- the same of the body of a universal formula
+pub special_room : (names : List Decl) (variables : List Sort) (s : Sort) (a : FormulaTree) (t : TermTree) → is_assumable names variables (quantified for_all s a) ≡ true → has_sort (sort_of names variables t) s ≡ true → length variables < 2 ^ 31 + 2 ^ 30 → fits (instance a t 0) ≡ true → HasIndicesBelow (2 ^ 32) (instance a t 0)
+special_room names variables s a t good of few fit = given_room names variables s a t (assumable_sorted names variables (quantified for_all s a) good) of few fit
 
 -- the sides of a well-sorted equation are integers
 equation_if : (t u : Bool) → has_sort (if t && u then Some sort.Bool else None) sort.Bool ≡ true → (t ≡ true) × (u ≡ true)

@@ -111,6 +111,7 @@ fn lowered<'f>(alloc: Global, a: &Formula) -> Result<Option<Found<'f>>, NoMemory
 }
 
 // The body of a universal formula, at a term of its sort.
+#[tactic(auto, using(crate::proofs::Ruled::special_room))]
 fn special<'f>(
     alloc: Global,
     decls: &Decls,
@@ -297,6 +298,7 @@ fn rewritten<'f>(
     }
 }
 
+#[tactic(auto, using(crate::proofs::Ruled::equation_left, crate::proofs::Ruled::equation_right))]
 fn equated<'f>(
     alloc: Global,
     decls: &Decls,
