@@ -32,7 +32,7 @@ given_ok false a b e = absurd (cc)
 
 computes_ok : (r : Result (Unit {0}) NoCompute) → computes r ≡ true → r ≡ Ok tt
 computes_ok (Ok u) e = refl
-computes_ok (Err no) e = absurd (cc)
+computes_ok (Err fault) e = absurd (cc)
 
 special_ok : (names : List Decl) (variables : List Sort) (t : TermTree) (f c : FormulaTree) → special_of names variables t f ≡ Some c
     → (s : Sort) × (a : FormulaTree) × (f ≡ quantified for_all s a) × (sort_of names variables t ≡ Some s) × (c ≡ instance a t 0)
@@ -95,12 +95,12 @@ one_ok w rule a m e =
     let v = found_ok (rule u.0) u.1 a m u.3 in
     (u.0, u.1, u.2, v.0, v.1, v.2)
 
-two_ok : (w : Walk) (then : ℕ → Walk) (rule : FormulaTree → FormulaTree → Option FormulaTree) (a : FormulaTree) (m : ℕ)
-    → continued w (λ f k. continued (then k) (λ g l. found (rule f g) l)) ≡ Ok (a, m)
-    → (f : FormulaTree) × (k : ℕ) × (g : FormulaTree) × (l : ℕ) × (w ≡ Ok (f, k)) × (then k ≡ Ok (g, l)) × (fits a ≡ true) × (rule f g ≡ Some a) × (m ≡ l + 1)
-two_ok w then rule a m e =
-    let u = continued_ok w (λ f k. continued (then k) (λ g l. found (rule f g) l)) (a, m) e in
-    let v = one_ok (then u.1) (rule u.0) a m u.3 in
+two_ok : (w : Walk) (onward : ℕ → Walk) (rule : FormulaTree → FormulaTree → Option FormulaTree) (a : FormulaTree) (m : ℕ)
+    → continued w (λ f k. continued (onward k) (λ g l. found (rule f g) l)) ≡ Ok (a, m)
+    → (f : FormulaTree) × (k : ℕ) × (g : FormulaTree) × (l : ℕ) × (w ≡ Ok (f, k)) × (onward k ≡ Ok (g, l)) × (fits a ≡ true) × (rule f g ≡ Some a) × (m ≡ l + 1)
+two_ok w onward rule a m e =
+    let u = continued_ok w (λ f k. continued (onward k) (λ g l. found (rule f g) l)) (a, m) e in
+    let v = one_ok (onward u.1) (rule u.0) a m u.3 in
     (u.0, u.1, v.0, v.1, u.2, v.2, v.3, v.4, v.5)
 
 sides_ok : (f : FormulaTree) (place : ℕ) (next : FormulaTree → FormulaTree → Walk) (r : FormulaTree × ℕ) → with_sides f place next ≡ Ok r
@@ -261,10 +261,10 @@ one_finds : (w : Walk) (rule : FormulaTree → Option FormulaTree) (f a : Formul
     → continued w (λ g k. found (rule g) k) ≡ Ok (a, n + (1 + p))
 one_finds w rule f a n p e r fit = rw (e, r) (found_fits a (n + p) (n + (1 + p)) fit (one_more n p))
 
-two_finds : (w : Walk) (then : ℕ → Walk) (rule : FormulaTree → FormulaTree → Option FormulaTree) (f g a : FormulaTree) (n p q : ℕ)
-    → w ≡ Ok (f, n + p) → then (n + p) ≡ Ok (g, n + p + q) → rule f g ≡ Some a → fits a ≡ true
-    → continued w (λ f k. continued (then k) (λ g l. found (rule f g) l)) ≡ Ok (a, n + (1 + p + q))
-two_finds w then rule f g a n p q e h r fit = rw (e, h, r) (found_fits a (n + p + q) (n + (1 + p + q)) fit (two_more n p q))
+two_finds : (w : Walk) (onward : ℕ → Walk) (rule : FormulaTree → FormulaTree → Option FormulaTree) (f g a : FormulaTree) (n p q : ℕ)
+    → w ≡ Ok (f, n + p) → onward (n + p) ≡ Ok (g, n + p + q) → rule f g ≡ Some a → fits a ≡ true
+    → continued w (λ f k. continued (onward k) (λ g l. found (rule f g) l)) ≡ Ok (a, n + (1 + p + q))
+two_finds w onward rule f g a n p q e h r fit = rw (e, h, r) (found_fits a (n + p + q) (n + (1 + p + q)) fit (two_more n p q))
 
 pub finds : (names : List Decl) (variables : List Sort) (hypotheses : List FormulaTree) (p : ProofTree) (a : FormulaTree) (n : ℕ)
     → Has names variables hypotheses p a → walked names variables hypotheses p n ≡ Ok (a, n + proof_nodes p)

@@ -195,7 +195,7 @@ module _ (names : List Decl) (variables : List Sort) (hypotheses : List FormulaT
 
   -- the whole, after a part all of whose subproofs have formulas
   after_part : (Part : Numbered) (count : ℕ) → proof_nodes whole ≡ 1 + count → AllTyped names Part → k ≡ n + count → FirstAt names (Either Part (IsWhole variables hypotheses whole)) n k
-  after_part Part count e part at = (count, at, first_back names Part (IsWhole variables hypotheses whole) count part (first_whole names variables hypotheses whole count (sym e) none))
+  after_part Part count e part at = (count, at, first_back names Part (IsWhole variables hypotheses whole) count part (first_whole names variables hypotheses whole count (omega (arith, e)) none))
 
   -- a part before the whole
   in_part : (Part : Numbered) (count : ℕ) → count < proof_nodes whole → Below count Part → FirstAt names Part n k → FirstAt names (Either Part (IsWhole variables hypotheses whole)) n k
@@ -203,8 +203,8 @@ module _ (names : List Decl) (variables : List Sort) (hypotheses : List FormulaT
       (f.0, f.1, first_front names Part (IsWhole variables hypotheses whole) count f.0 part (past_whole count variables hypotheses whole h) f.2)
 
 -- what stands after a part all of whose subproofs have formulas
-first_later : (names : List Decl) (n k count : ℕ) (Front Back : Numbered) → AllTyped names Front → FirstAt names Back n k → FirstAt names (Either Front Back) n k
-first_later names n k count Front Back front f = (f.0, f.1, first_back names Front Back f.0 front f.2)
+first_later : (names : List Decl) (n k : ℕ) (Front Back : Numbered) → AllTyped names Front → FirstAt names Back n k → FirstAt names (Either Front Back) n k
+first_later names n k Front Back front f = (f.0, f.1, first_back names Front Back f.0 front f.2)
 
 -- a walk of one part, and then the rule of the whole
 one_place : (names : List Decl) (variables : List Sort) (hypotheses : List FormulaTree) (whole : ProofTree) (n k : ℕ) (w : Walk) (rule : FormulaTree → Option FormulaTree) (Part : Numbered) (count : ℕ)
@@ -230,23 +230,23 @@ front_place names variables hypotheses whole n k Front Middle count h front midd
     (f.0, f.1, first_front names Front (Either Middle (IsWhole variables hypotheses whole)) count f.0 front (past_either count Middle (IsWhole variables hypotheses whole) middle (past_whole count variables hypotheses whole h)) f.2)
 
 -- a walk of two parts, and then the rule of the whole
-two_place : (names : List Decl) (variables : List Sort) (hypotheses : List FormulaTree) (whole : ProofTree) (n k : ℕ) (w : Walk) (then : ℕ → Walk) (rule : FormulaTree → FormulaTree → Option FormulaTree) (Front Middle : Numbered) (count more : ℕ)
+two_place : (names : List Decl) (variables : List Sort) (hypotheses : List FormulaTree) (whole : ProofTree) (n k : ℕ) (w : Walk) (onward : ℕ → Walk) (rule : FormulaTree → FormulaTree → Option FormulaTree) (Front Middle : Numbered) (count more : ℕ)
     → ((a : FormulaTree) → Has names variables hypotheses whole a → ⊥)
     → proof_nodes whole ≡ 1 + more → count ≤ more → Below count Front → Past count Middle → Below more Middle
     → (w ≡ Err k → FirstAt names Front n k)
     → ((f : FormulaTree) (m : ℕ) → w ≡ Ok (f, m) → AllTyped names Front × (m ≡ n + count))
-    → ((m : ℕ) → m ≡ n + count → then m ≡ Err k → FirstAt names Middle n k)
-    → ((m : ℕ) → m ≡ n + count → (g : FormulaTree) (l : ℕ) → then m ≡ Ok (g, l) → AllTyped names Middle × (l ≡ n + more))
-    → continued w (λ f m. continued (then m) (λ g l. found (rule f g) l)) ≡ Err k
+    → ((m : ℕ) → m ≡ n + count → onward m ≡ Err k → FirstAt names Middle n k)
+    → ((m : ℕ) → m ≡ n + count → (g : FormulaTree) (l : ℕ) → onward m ≡ Ok (g, l) → AllTyped names Middle × (l ≡ n + more))
+    → continued w (λ f m. continued (onward m) (λ g l. found (rule f g) l)) ≡ Err k
     → FirstAt names (Either Front (Either Middle (IsWhole variables hypotheses whole))) n k
-two_place names variables hypotheses whole n k w then rule Front Middle count more none nodes few front past middle fault given fault_middle given_middle e =
+two_place names variables hypotheses whole n k w onward rule Front Middle count more none nodes few front past middle fault given fault_middle given_middle e =
     ⊎_elim
     (λ (h : w ≡ Err k). front_place names variables hypotheses whole n k Front Middle count (omega (arith, nodes, few)) front past (fault h))
-    (λ (h : (f : FormulaTree) × (m : ℕ) × (w ≡ Ok (f, m)) × (continued (then m) (λ g l. found (rule f g) l) ≡ Err k)).
+    (λ (h : (f : FormulaTree) × (m : ℕ) × (w ≡ Ok (f, m)) × (continued (onward m) (λ g l. found (rule f g) l) ≡ Err k)).
     let g = given h.0 h.1 h.2 in
     first_later names n k Front (Either Middle (IsWhole variables hypotheses whole)) g.0
-    (one_place names variables hypotheses whole n k (then h.1) (rule h.0) Middle more none nodes middle (fault_middle h.1 g.1) (given_middle h.1 g.1) h.3))
-    (continued_err w (λ f m. continued (then m) (λ g l. found (rule f g) l)) k e)
+    (one_place names variables hypotheses whole n k (onward h.1) (rule h.0) Middle more none nodes middle (fault_middle h.1 g.1) (given_middle h.1 g.1) h.3))
+    (continued_err w (λ f m. continued (onward m) (λ g l. found (rule f g) l)) k e)
 
 -- what the walk tells of a part that has a formula
 given_part : (names : List Decl) (variables : List Sort) (hypotheses : List FormulaTree) (p : ProofTree) (n : ℕ) (f : FormulaTree) (m : ℕ)
@@ -339,7 +339,7 @@ place names variables hypotheses (by_cases p q r) n k e =
     same_cases names variables hypotheses p q r d.0 d.1 n k (IsWhole variables hypotheses (by_cases p q r)) (subst (λ x. Has names variables hypotheses p x) d.2 i.0)
     (two_place names variables hypotheses (by_cases p q r) n k (walked names variables (d.0 ∷ hypotheses) q h.1) (λ j. walked names variables (d.1 ∷ hypotheses) r j) (λ x y. of_cases x y)
     (After (proof_nodes p) (IsSubproof names variables (d.0 ∷ hypotheses) q)) (After (proof_nodes p + proof_nodes q) (IsSubproof names variables (d.1 ∷ hypotheses) r)) (proof_nodes p + proof_nodes q) (proof_nodes p + proof_nodes q + proof_nodes r)
-    none refl (omega arith)
+    none (omega arith) (omega arith)
     (below_after (proof_nodes p) (proof_nodes q) (IsSubproof names variables (d.0 ∷ hypotheses) q) (below names variables (d.0 ∷ hypotheses) q))
     (past_after (proof_nodes p + proof_nodes q) (IsSubproof names variables (d.1 ∷ hypotheses) r))
     (below_after (proof_nodes p + proof_nodes q) (proof_nodes r) (IsSubproof names variables (d.1 ∷ hypotheses) r) (below names variables (d.1 ∷ hypotheses) r))
@@ -349,7 +349,7 @@ place names variables hypotheses (by_cases p q r) n k e =
     (λ m at g l u. given_later names n m l (proof_nodes p + proof_nodes q) (proof_nodes r) (IsSubproof names variables (d.1 ∷ hypotheses) r) at (given_part names variables (d.1 ∷ hypotheses) r m g l u))
     d.3))
     (λ (d : (k ≡ h.1 + proof_nodes q + proof_nodes r) × ((a b : FormulaTree) → h.0 ≡ joined or_else a b → ⊥)).
-    after_part names variables hypotheses (by_cases p q r) none n k (Cases names variables hypotheses p q r) (proof_nodes p + proof_nodes q + proof_nodes r) refl
+    after_part names variables hypotheses (by_cases p q r) none n k (Cases names variables hypotheses p q r) (proof_nodes p + proof_nodes q + proof_nodes r) (omega arith)
     (λ j s x. absurd (d.1 x.0 x.1 (one_formula names variables hypotheses p h.0 (joined or_else x.0 x.1) i.0 x.2)))
     (at_third n k h.1 (proof_nodes p) (proof_nodes q) (proof_nodes r) i.1 d.0))
     (sides_err h.0 (h.1 + proof_nodes q + proof_nodes r) (λ a b. continued (walked names variables (a ∷ hypotheses) q h.1) (λ c j. continued (walked names variables (b ∷ hypotheses) r j) (λ d l. found (of_cases c d) l))) k h.3)))
@@ -368,13 +368,13 @@ place names variables hypotheses (unpack p q) n k e =
     same_unpacked names variables hypotheses p q d.0 d.1 n k (IsWhole variables hypotheses (unpack p q)) (subst (λ x. Has names variables hypotheses p x) d.2 i.0)
     (one_place names variables hypotheses (unpack p q) n k (walked names (d.0 ∷ variables) (d.1 ∷ raised hypotheses) q h.1) (λ c. of_unpacked c)
     (UnpackedOf names variables hypotheses p q d.0 d.1) (proof_nodes p + proof_nodes q)
-    none refl
+    none (omega arith)
     (below_after (proof_nodes p) (proof_nodes q) (IsSubproof names (d.0 ∷ variables) (d.1 ∷ raised hypotheses) q) (below names (d.0 ∷ variables) (d.1 ∷ raised hypotheses) q))
     (λ u. later names n h.1 k (proof_nodes p) (IsSubproof names (d.0 ∷ variables) (d.1 ∷ raised hypotheses) q) i.1 (place names (d.0 ∷ variables) (d.1 ∷ raised hypotheses) q h.1 k u))
     (λ f m u. given_later names n h.1 m (proof_nodes p) (proof_nodes q) (IsSubproof names (d.0 ∷ variables) (d.1 ∷ raised hypotheses) q) i.1 (given_part names (d.0 ∷ variables) (d.1 ∷ raised hypotheses) q h.1 f m u))
     d.3))
     (λ (d : (k ≡ h.1 + proof_nodes q) × ((s : Sort) (a : FormulaTree) → h.0 ≡ quantified there_is s a → ⊥)).
-    after_part names variables hypotheses (unpack p q) none n k (Unpacked names variables hypotheses p q) (proof_nodes p + proof_nodes q) refl
+    after_part names variables hypotheses (unpack p q) none n k (Unpacked names variables hypotheses p q) (proof_nodes p + proof_nodes q) (omega arith)
     (λ j s x. absurd (d.1 x.0 x.1 (one_formula names variables hypotheses p h.0 (quantified there_is x.0 x.1) i.0 x.2)))
     (at_second n k h.1 (proof_nodes p) (proof_nodes q) i.1 d.0))
     (body_err h.0 (h.1 + proof_nodes q) (λ s a. continued (walked names (s ∷ variables) (a ∷ raised hypotheses) q h.1) (λ c j. found (of_unpacked c) j)) k h.3)))
@@ -382,7 +382,7 @@ place names variables hypotheses (unpack p q) n k e =
 place names variables hypotheses (application p q) n k e =
     two_place names variables hypotheses (application p q) n k (walked names variables hypotheses p n) (λ m. walked names variables hypotheses q m) (λ f g. of_two names variables (application p q) f g)
     (IsSubproof names variables hypotheses p) (After (proof_nodes p) (IsSubproof names variables hypotheses q)) (proof_nodes p) (proof_nodes p + proof_nodes q)
-    (none_at names variables hypotheses (application p q) n k e) refl (omega arith) (below names variables hypotheses p) (past_after (proof_nodes p) (IsSubproof names variables hypotheses q)) (below_after (proof_nodes p) (proof_nodes q) (IsSubproof names variables hypotheses q) (below names variables hypotheses q))
+    (none_at names variables hypotheses (application p q) n k e) (omega arith) (omega arith) (below names variables hypotheses p) (past_after (proof_nodes p) (IsSubproof names variables hypotheses q)) (below_after (proof_nodes p) (proof_nodes q) (IsSubproof names variables hypotheses q) (below names variables hypotheses q))
     (λ u. place names variables hypotheses p n k u) (λ f m u. given_part names variables hypotheses p n f m u)
     (λ m at u. later names n m k (proof_nodes p) (IsSubproof names variables hypotheses q) at (place names variables hypotheses q m k u))
     (λ m at g l u. given_later names n m l (proof_nodes p) (proof_nodes q) (IsSubproof names variables hypotheses q) at (given_part names variables hypotheses q m g l u))
@@ -390,7 +390,7 @@ place names variables hypotheses (application p q) n k e =
 place names variables hypotheses (pair p q) n k e =
     two_place names variables hypotheses (pair p q) n k (walked names variables hypotheses p n) (λ m. walked names variables hypotheses q m) (λ f g. of_two names variables (pair p q) f g)
     (IsSubproof names variables hypotheses p) (After (proof_nodes p) (IsSubproof names variables hypotheses q)) (proof_nodes p) (proof_nodes p + proof_nodes q)
-    (none_at names variables hypotheses (pair p q) n k e) refl (omega arith) (below names variables hypotheses p) (past_after (proof_nodes p) (IsSubproof names variables hypotheses q)) (below_after (proof_nodes p) (proof_nodes q) (IsSubproof names variables hypotheses q) (below names variables hypotheses q))
+    (none_at names variables hypotheses (pair p q) n k e) (omega arith) (omega arith) (below names variables hypotheses p) (past_after (proof_nodes p) (IsSubproof names variables hypotheses q)) (below_after (proof_nodes p) (proof_nodes q) (IsSubproof names variables hypotheses q) (below names variables hypotheses q))
     (λ u. place names variables hypotheses p n k u) (λ f m u. given_part names variables hypotheses p n f m u)
     (λ m at u. later names n m k (proof_nodes p) (IsSubproof names variables hypotheses q) at (place names variables hypotheses q m k u))
     (λ m at g l u. given_later names n m l (proof_nodes p) (proof_nodes q) (IsSubproof names variables hypotheses q) at (given_part names variables hypotheses q m g l u))
@@ -398,7 +398,7 @@ place names variables hypotheses (pair p q) n k e =
 place names variables hypotheses (rewriting b p q) n k e =
     two_place names variables hypotheses (rewriting b p q) n k (walked names variables hypotheses p n) (λ m. walked names variables hypotheses q m) (λ f g. of_two names variables (rewriting b p q) f g)
     (IsSubproof names variables hypotheses p) (After (proof_nodes p) (IsSubproof names variables hypotheses q)) (proof_nodes p) (proof_nodes p + proof_nodes q)
-    (none_at names variables hypotheses (rewriting b p q) n k e) refl (omega arith) (below names variables hypotheses p) (past_after (proof_nodes p) (IsSubproof names variables hypotheses q)) (below_after (proof_nodes p) (proof_nodes q) (IsSubproof names variables hypotheses q) (below names variables hypotheses q))
+    (none_at names variables hypotheses (rewriting b p q) n k e) (omega arith) (omega arith) (below names variables hypotheses p) (past_after (proof_nodes p) (IsSubproof names variables hypotheses q)) (below_after (proof_nodes p) (proof_nodes q) (IsSubproof names variables hypotheses q) (below names variables hypotheses q))
     (λ u. place names variables hypotheses p n k u) (λ f m u. given_part names variables hypotheses p n f m u)
     (λ m at u. later names n m k (proof_nodes p) (IsSubproof names variables hypotheses q) at (place names variables hypotheses q m k u))
     (λ m at g l u. given_later names n m l (proof_nodes p) (proof_nodes q) (IsSubproof names variables hypotheses q) at (given_part names variables hypotheses q m g l u))
@@ -447,7 +447,8 @@ pub place_from_zero : (names : List Decl) (variables : List Sort) (hypotheses : 
     → walked names variables hypotheses p 0 ≡ Err k → IsFirstUntyped names variables hypotheses p k
 place_from_zero names variables hypotheses p k e =
     let f = place names variables hypotheses p 0 k e in
-    subst (λ j. IsFirstUntyped names variables hypotheses p j) (sym f.1) f.2
+    let same : f.0 ≡ k = omega (arith, f.1) in
+    subst (λ j. IsFirstUntyped names variables hypotheses p j) same f.2
 
 -- The laws
 

@@ -66,7 +66,7 @@ shifted (joined c a b) by above bound limit h i = (shifted a by above bound limi
 shifted (quantified q s a) by above bound limit h i = shifted a by (suc above) bound limit h i
 
 -- what a shift of a hypothesis needs
-pub shift_room : (names : List Decl) (variables : List Sort) (a : FormulaTree) (by above : ℕ) → is_assumable names variables a ≡ true → length variables + by < 2 ^ 31 → HasIndicesBelow (2 ^ 32) (shift a by above)
+pub shift_room : (names : List Decl) (variables : List Sort) (a : FormulaTree) (by above : ℕ) → is_assumable names variables a ≡ true → length variables + by + 256 < 2 ^ 32 → HasIndicesBelow (2 ^ 32) (shift a by above)
 shift_room names variables a by above h few =
     let low = (fits_bounds a (assumable_fits names variables a h)).1 in
     shifted a by above (length variables + depth a) (2 ^ 32) (omega (arith, low, few)) (sorted_indices names variables a (length variables + depth a) (omega arith) (assumable_sorted names variables a h))
@@ -96,7 +96,7 @@ instanced (quantified q s a) t place bound limit i h j = instanced a t (suc plac
 
 -- what an instance needs, where the formula fits
 pub instance_room : (names : List Decl) (variables : List Sort) (s : Sort) (a : FormulaTree) (t : TermTree)
-    → well_sorted names (s ∷ variables) a ≡ true → fits a ≡ true → sort_of names variables t ≡ Some s → length variables < 2 ^ 31
+    → well_sorted names (s ∷ variables) a ≡ true → fits a ≡ true → sort_of names variables t ≡ Some s → length variables + 256 < 2 ^ 32
     → HasIndicesBelow (2 ^ 32) (instance a t 0)
 instance_room names variables s a t e fit known few =
     let low = (fits_bounds a fit).1 in
@@ -147,13 +147,13 @@ instance_fits a t place h = fits_smaller a (instance a t place) (size_grows a t 
 
 -- what an instance needs, where the instance fits
 pub fitting_instance_room : (names : List Decl) (variables : List Sort) (s : Sort) (a : FormulaTree) (t : TermTree)
-    → well_sorted names (s ∷ variables) a ≡ true → fits (instance a t 0) ≡ true → sort_of names variables t ≡ Some s → length variables < 2 ^ 31
+    → well_sorted names (s ∷ variables) a ≡ true → fits (instance a t 0) ≡ true → sort_of names variables t ≡ Some s → length variables + 256 < 2 ^ 32
     → HasIndicesBelow (2 ^ 32) (instance a t 0)
 fitting_instance_room names variables s a t e fit known few = instance_room names variables s a t e (instance_fits a t 0 fit) known few
 
 -- what the instance of a universal formula needs
 pub special_room : (names : List Decl) (variables : List Sort) (s : Sort) (a : FormulaTree) (t : TermTree)
-    → is_assumable names variables (quantified for_all s a) ≡ true → sort_of names variables t ≡ Some s → length variables < 2 ^ 31
+    → is_assumable names variables (quantified for_all s a) ≡ true → sort_of names variables t ≡ Some s → length variables + 256 < 2 ^ 32
     → HasIndicesBelow (2 ^ 32) (instance a t 0)
 special_room names variables s a t h known few =
     instance_room names variables s a t (assumable_sorted names variables (quantified for_all s a) h)

@@ -1,5 +1,5 @@
 -- Formulas of proofs may be hypotheses again, where all hypotheses may be.
-use Rattle.std.proofs.Common.{◌≡◌, ℕ, zero, suc, ◌&&◌, true, false, Bool, if◌then◌else◌, List, [], ◌∷◌, Option, Some, None, slice_get, Result, Ok, Err, max, refl, sym, ◌∙◌, ap, subst, arith}
+use Rattle.std.proofs.Common.{◌≡◌, ℕ, zero, suc, ◌+◌, ◌&&◌, true, false, Bool, if◌then◌else◌, List, [], ◌∷◌, Option, Some, None, slice_get, Result, Ok, Err, max, refl, sym, ◌∙◌, ap, subst, arith}
 use Rattle.std.proofs.lemmas.Bool.{and_parts, and_from}
 use Rattle.ck_base.specs.declared.decl.Sort.{Sort}
 use Rattle.ck_base.specs.declared.decl.Sort.TheVariants as sort
@@ -47,15 +47,15 @@ fitting names variables hypotheses p a h = absurd h
 
 pub shift_size : (a : FormulaTree) (by above : ℕ) → size (shift a by above) ≡ size a
 shift_size bottom by above = refl
-shift_size (holds t) by above = ap suc (shift_keeps_size t by above)
+shift_size (holds t) by above = ap (λ n. 1 + n) (shift_keeps_size t by above)
 shift_size (joined c a b) by above = rw (shift_size a by above, shift_size b by above) refl
-shift_size (quantified q s a) by above = ap suc (shift_size a by (suc above))
+shift_size (quantified q s a) by above = ap (λ n. 1 + n) (shift_size a by (suc above))
 
 pub shift_depth : (a : FormulaTree) (by above : ℕ) → depth (shift a by above) ≡ depth a
 shift_depth bottom by above = refl
-shift_depth (holds t) by above = ap suc (shift_keeps_depth t by above)
+shift_depth (holds t) by above = ap (λ n. 1 + n) (shift_keeps_depth t by above)
 shift_depth (joined c a b) by above = rw (shift_depth a by above, shift_depth b by above) refl
-shift_depth (quantified q s a) by above = ap suc (shift_depth a by (suc above))
+shift_depth (quantified q s a) by above = ap (λ n. 1 + n) (shift_depth a by (suc above))
 
 pub shift_fits : (a : FormulaTree) (by above : ℕ) → fits (shift a by above) ≡ fits a
 unfolding fits
@@ -155,7 +155,7 @@ sorted names variables hypotheses (from_bottom a p) c all h = subst (λ x. well_
 sorted names variables hypotheses (stable p) a all h =
     let denied = (and_parts (well_sorted names variables (not_so a)) true (sorted names variables hypotheses p (not_so (not_so a)) all h.1)).0 in
     (and_parts (well_sorted names variables a) true denied).0
-sorted names variables hypotheses (reflexive t) c all h = subst (λ x. well_sorted names variables x ≡ true) (sym h.2) (rw (h.1, h.1) refl)
+sorted names variables hypotheses (reflexive t) c all h = subst (λ x. well_sorted names variables x ≡ true) (sym h.2) (rw h.1 refl)
 sorted names variables hypotheses (rewriting a p q) c all h =
     let right : sort_of names variables h.3 ≡ Some sort.Int = right_integer names variables h.2 h.3 (sorted names variables hypotheses p (holds (binary equal h.2 h.3)) all h.4) in
     subst (λ x. well_sorted names variables x ≡ true) (sym h.6) (sorted_instance names h.3 sort.Int variables right a [] ∙ h.1)

@@ -1,6 +1,6 @@
 -- The formula of a proof is true where all hypotheses are, by induction on the proof.
-use Rattle.std.proofs.Common.{◌≡◌, ℕ, zero, suc, Bool, true, false, List, [], ◌∷◌, Some, slice_get, refl, sym, subst, transport, ◌∙◌, ap, arith}
-use Rattle.std.proofs.lemmas.Bool.{and_parts}
+use Rattle.std.proofs.Common.{◌≡◌, ℕ, zero, suc, Bool, true, false, List, [], ◌∷◌, Some, slice_get, refl, sym, subst, ◌∙◌, ap, arith}
+use mathlib.Core.Path.{transport}
 use Rattle.std.proofs.lemmas.Int.{ints}
 use Rattle.std.specs.Prelude.{ℤ}
 use lib.Signed.{le_z}

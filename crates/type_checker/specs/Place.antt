@@ -1,5 +1,5 @@
 -- Where the fault of a proof is that has no formula: the first of its subproofs that has none.
-use Rattle.std.specs.Prelude.{◌≡◌, ◌⊎◌, ℕ, suc, ◌+◌, ◌<◌, Bool, true, ◌&&◌, List, ◌∷◌}
+use Rattle.std.specs.Prelude.{◌≡◌, ◌⊎◌, ℕ, suc, ◌+◌, ◌<◌, Bool, true, ◌&&◌, List, [], ◌∷◌}
 use Rattle.ck_base.specs.declared.decl.Sort.{Sort}
 use Rattle.ck_base.specs.declared.decl.Decl.{Decl}
 use Rattle.formulas.specs.Tree.{FormulaTree, joined, or_else, quantified, there_is}

@@ -26,7 +26,7 @@ given condition a = if condition then Some a else None
 
 abbrev pub computes : Result (Unit {0}) NoCompute → Bool
 computes (Ok u) = true
-computes (Err no) = false
+computes (Err fault) = false
 
 -- the formula of a node without parts
 abbrev pub of_leaf : List Decl → List Sort → List FormulaTree → ProofTree → Option FormulaTree
