@@ -1,22 +1,20 @@
 -- Where a proof has no formula, the walk ends at the first of its subproofs that has none.
-use Rattle.std.proofs.Common.{◌≡◌, ◌⊎◌, inl, inr, ⊎_elim, ℕ, zero, suc, ◌+◌, ◌<◌, ◌≤◌, Bool, true, false, if◌then◌else◌, List, [], ◌∷◌, Option, Some, None, Result, Ok, Err, refl, sym, ◌∙◌, ap, subst, arith}
-use Rattle.std.proofs.lemmas.Bool.{and_from, cases_lt}
+use Rattle.std.proofs.Common.{◌≡◌, ◌⊎◌, inl, inr, ⊎_elim, ℕ, ◌+◌, ◌<◌, ◌≤◌, Bool, true, false, if◌then◌else◌, List, ◌∷◌, Option, Some, None, Ok, Err, refl, ◌∙◌, subst, arith}
+use Rattle.std.proofs.lemmas.Bool.{cases_lt}
 use Rattle.ck_base.specs.declared.decl.Sort.{Sort}
 use Rattle.ck_base.specs.declared.decl.Decl.{Decl}
 use Rattle.sorted_terms.specs.Tree.{binary, equal}
-use Rattle.formulas.specs.Tree.{FormulaTree, Connective, implies, and_also, or_else, Quantifier, for_all, there_is, bottom, holds, joined, quantified, not_so}
-use Rattle.formulas.specs.Sorts.{fits, well_sorted}
+use Rattle.formulas.specs.Tree.{FormulaTree, implies, and_also, or_else, for_all, there_is, bottom, holds, joined, quantified, not_so}
 use Rattle.formulas.specs.Substitution.{shift, instance}
 use Rattle.formulas.specs.Context.{raised}
 use Rattle.proof_terms.specs.Tree.{ProofTree, hypothesis, lambda, application, general, special, pair, first, second, left_of, right_of, by_cases, pack, unpack, from_bottom, stable, reflexive, rewriting, an_axiom, induction, computing, ring_equal, hole}
 use Rattle.type_checker.specs.Typing.{Has}
-use Rattle.type_checker.specs.Place.{proof_nodes, Subproof, IsSubproof, IsWhole, After, IsTyped, IsFirstUntyped, is_assumable, AreAssumable}
+use Rattle.type_checker.specs.Place.{proof_nodes, Subproof, IsSubproof, IsWhole, After, IsFirstUntyped, is_assumable, AreAssumable}
 use Rattle.type_checker.specs.Rules.{fitting, of_leaf, of_one, of_two, of_cases, of_unpacked}
 use Rattle.type_checker.specs.Walk.{Walk, found_at, found, continued, with_sides, with_body, walked}
-use Rattle.type_checker.proofs.Sides.{fits_left_side}
 use Rattle.type_checker.proofs.Single.{one_formula, left_side, right_side, sort_over, body_of}
 use Rattle.type_checker.proofs.Subproofs.{Numbered, Below, Past, AllTyped, IsFirst, Either, below_either, below_after, below_more, below_whole, past_either, past_after, past_less, past_whole, typed_either, typed_after, typed_whole, first_front, first_back, first_after, first_whole, first_same}
-use Rattle.type_checker.proofs.Exact.{has, finds, none_at}
+use Rattle.type_checker.proofs.Exact.{has, none_at}
 
 -- The parts that stand under what the parts before tell
 
@@ -273,13 +271,17 @@ same_cases : (names : List Decl) (variables : List Sort) (hypotheses : List Form
     → Has names variables hypotheses p (joined or_else a b)
     → FirstAt names (Either (After (proof_nodes p) (IsSubproof names variables (a ∷ hypotheses) q)) (Either (After (proof_nodes p + proof_nodes q) (IsSubproof names variables (b ∷ hypotheses) r)) Whole)) n k
     → FirstAt names (Either (Cases names variables hypotheses p q r) Whole) n k
-same_cases names variables hypotheses p q r a b n k Whole h f =
-    (f.0, f.1, first_same names (Either Left (Either Right Whole)) (Either (Cases names variables hypotheses p q r) Whole) f.0
-    (λ j s x. ⊎_elim (λ (y : Left j s). inl (a, b, h, inl y)) (λ (y : Right j s ⊎ Whole j s). ⊎_elim (λ (z : Right j s). inl (a, b, h, inr z)) (λ (z : Whole j s). inr z) y) x)
-    (λ j s x. ⊎_elim (λ (y : Cases names variables hypotheses p q r j s). ⊎_elim (λ (z : Left j s). inl z) (λ (z : Right j s). inr (inl z)) (cases_of names variables hypotheses p q r a b h j s y)) (λ (y : Whole j s). inr (inr y)) x)
-    f.2) where
+same_cases names variables hypotheses p q r a b n k Whole h f = (
+  f.0,
+  f.1,
+  first_same names (Either Left (Either Right Whole)) (Either (Cases names variables hypotheses p q r) Whole) f.0
+      (λ j s x. ⊎_elim (λ (y : Left j s). inl (a, b, h, inl y)) (λ (y : Right j s ⊎ Whole j s). ⊎_elim (λ (z : Right j s). inl (a, b, h, inr z)) (λ (z : Whole j s). inr z) y) x)
+      (λ j s x. ⊎_elim (λ (y : Cases names variables hypotheses p q r j s). ⊎_elim (λ (z : Left j s). inl z) (λ (z : Right j s). inr (inl z)) (cases_of names variables hypotheses p q r a b h j s y)) (λ (y : Whole j s). inr (inr y)) x)
+      f.2,
+) where
   Left : Numbered
   Left = After (proof_nodes p) (IsSubproof names variables (a ∷ hypotheses) q)
+
   Right : Numbered
   Right = After (proof_nodes p + proof_nodes q) (IsSubproof names variables (b ∷ hypotheses) r)
 
@@ -287,11 +289,14 @@ same_unpacked : (names : List Decl) (variables : List Sort) (hypotheses : List F
     → Has names variables hypotheses p (quantified there_is r a)
     → FirstAt names (Either (UnpackedOf names variables hypotheses p q r a) Whole) n k
     → FirstAt names (Either (Unpacked names variables hypotheses p q) Whole) n k
-same_unpacked names variables hypotheses p q r a n k Whole h f =
-    (f.0, f.1, first_same names (Either (UnpackedOf names variables hypotheses p q r a) Whole) (Either (Unpacked names variables hypotheses p q) Whole) f.0
-    (λ j s x. ⊎_elim (λ (y : UnpackedOf names variables hypotheses p q r a j s). inl (r, a, h, y)) (λ (y : Whole j s). inr y) x)
-    (λ j s x. ⊎_elim (λ (y : Unpacked names variables hypotheses p q j s). inl (unpacked_of names variables hypotheses p q r a h j s y)) (λ (y : Whole j s). inr y) x)
-    f.2)
+same_unpacked names variables hypotheses p q r a n k Whole h f = (
+  f.0,
+  f.1,
+  first_same names (Either (UnpackedOf names variables hypotheses p q r a) Whole) (Either (Unpacked names variables hypotheses p q) Whole) f.0
+      (λ j s x. ⊎_elim (λ (y : UnpackedOf names variables hypotheses p q r a j s). inl (r, a, h, y)) (λ (y : Whole j s). inr y) x)
+      (λ j s x. ⊎_elim (λ (y : Unpacked names variables hypotheses p q j s). inl (unpacked_of names variables hypotheses p q r a h j s y)) (λ (y : Whole j s). inr y) x)
+      f.2,
+)
 
 past_cases : (names : List Decl) (variables : List Sort) (hypotheses : List FormulaTree) (p q r : ProofTree) → Past (proof_nodes p) (Cases names variables hypotheses p q r)
 past_cases names variables hypotheses p q r k s x =
