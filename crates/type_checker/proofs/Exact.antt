@@ -1,23 +1,23 @@
 -- The walk gives a proof the formula that it has, and the place of its fault where it has none.
-use Rattle.std.proofs.Common.{◌≡◌, ◌⊎◌, inl, inr, ⊎_elim, ℕ, zero, suc, ◌+◌, ◌<◌, Bool, true, false, ◌&&◌, if◌then◌else◌, List, [], ◌∷◌, Option, Some, None, slice_get, Result, Ok, Err, refl, sym, ◌∙◌, ap, subst, arith}
+use Rattle.std.proofs.Common.{◌≡◌, ℕ, ◌+◌, Bool, true, false, ◌&&◌, if◌then◌else◌, List, ◌∷◌, Option, Some, None, slice_get, Result, Ok, Err, refl, sym, ◌∙◌, ap, subst, arith}
 use Rattle.std.proofs.lemmas.Bool.{and_parts, and_from}
 use Rattle.ck_base.specs.declared.decl.Sort.{Sort}
 use Rattle.ck_base.specs.declared.decl.Sort.TheVariants as sort
 use Rattle.ck_base.specs.declared.decl.Decl.{Decl}
-use Rattle.sorted_terms.specs.Tree.{TermTree, BinarySign, plus, difference, times, equal, less, at_most, both, either, name, index, integer, boolean, unary, binary}
+use Rattle.sorted_terms.specs.Tree.{TermTree, equal, binary}
 use Rattle.sorted_terms.specs.Sorts.{sort_of, has_sort}
-use Rattle.formulas.specs.Tree.{FormulaTree, Connective, implies, and_also, or_else, Quantifier, for_all, there_is, bottom, holds, joined, quantified, not_so}
+use Rattle.formulas.specs.Tree.{FormulaTree, implies, and_also, or_else, for_all, there_is, bottom, holds, joined, quantified, not_so}
 use Rattle.formulas.specs.Sorts.{fits, well_sorted}
 use Rattle.formulas.specs.Substitution.{shift, instance}
 use Rattle.formulas.specs.Context.{raised}
 use Rattle.arith_axioms.specs.declared.no_compute.NoCompute.{NoCompute}
 use Rattle.arith_axioms.specs.Axioms.{axiom_at, induction as induction_form}
 use Rattle.arith_axioms.specs.Computing.{computing as computed}
-use Rattle.proof_terms.specs.Tree.{ProofTree, hypothesis, lambda, application, general, special, pair, first, second, left_of, right_of, by_cases, pack, unpack, from_bottom, stable, reflexive, rewriting, an_axiom, induction, computing, ring_equal, hole}
+use Rattle.proof_terms.specs.Tree.{ProofTree, hypothesis, lambda, application, general, special, pair, first, second, left_of, right_of, by_cases, pack, unpack, from_bottom, stable, reflexive, rewriting, an_axiom, induction, computing}
 use Rattle.type_checker.specs.Typing.{Has}
 use Rattle.type_checker.specs.Place.{proof_nodes, is_assumable, AreAssumable}
 use Rattle.type_checker.specs.Same.{same_formula}
-use Rattle.type_checker.specs.Rules.{fitting as where_fitting, given, computes, of_leaf, special_of, first_of, second_of, denied_of, and_then, of_one, applied, rewritten, of_two, of_cases, of_unpacked}
+use Rattle.type_checker.specs.Rules.{given, computes, of_leaf, special_of, first_of, second_of, denied_of, and_then, of_one, applied, rewritten, of_two, of_cases, of_unpacked}
 use Rattle.type_checker.specs.Walk.{Walk, found_at, found, continued, with_sides, with_body, walked}
 use Rattle.type_checker.proofs.Same.{formula_is, formula_same}
 use Rattle.type_checker.proofs.Sides.{fits_left_side}

@@ -1,22 +1,20 @@
 -- Where a proof has no formula, the walk ends at the first of its subproofs that has none.
-use Rattle.std.proofs.Common.{◌≡◌, ◌⊎◌, inl, inr, ⊎_elim, ℕ, zero, suc, ◌+◌, ◌<◌, ◌≤◌, Bool, true, false, if◌then◌else◌, List, [], ◌∷◌, Option, Some, None, Result, Ok, Err, refl, sym, ◌∙◌, ap, subst, arith}
-use Rattle.std.proofs.lemmas.Bool.{and_from, cases_lt}
+use Rattle.std.proofs.Common.{◌≡◌, ◌⊎◌, inl, inr, ⊎_elim, ℕ, ◌+◌, ◌<◌, ◌≤◌, Bool, true, false, if◌then◌else◌, List, ◌∷◌, Option, Some, None, Ok, Err, refl, ◌∙◌, subst, arith}
+use Rattle.std.proofs.lemmas.Bool.{cases_lt}
 use Rattle.ck_base.specs.declared.decl.Sort.{Sort}
 use Rattle.ck_base.specs.declared.decl.Decl.{Decl}
 use Rattle.sorted_terms.specs.Tree.{binary, equal}
-use Rattle.formulas.specs.Tree.{FormulaTree, Connective, implies, and_also, or_else, Quantifier, for_all, there_is, bottom, holds, joined, quantified, not_so}
-use Rattle.formulas.specs.Sorts.{fits, well_sorted}
+use Rattle.formulas.specs.Tree.{FormulaTree, implies, and_also, or_else, for_all, there_is, bottom, holds, joined, quantified, not_so}
 use Rattle.formulas.specs.Substitution.{shift, instance}
 use Rattle.formulas.specs.Context.{raised}
 use Rattle.proof_terms.specs.Tree.{ProofTree, hypothesis, lambda, application, general, special, pair, first, second, left_of, right_of, by_cases, pack, unpack, from_bottom, stable, reflexive, rewriting, an_axiom, induction, computing, ring_equal, hole}
 use Rattle.type_checker.specs.Typing.{Has}
-use Rattle.type_checker.specs.Place.{proof_nodes, Subproof, IsSubproof, IsWhole, After, IsTyped, IsFirstUntyped, is_assumable, AreAssumable}
+use Rattle.type_checker.specs.Place.{proof_nodes, Subproof, IsSubproof, IsWhole, After, IsFirstUntyped, is_assumable, AreAssumable}
 use Rattle.type_checker.specs.Rules.{fitting, of_leaf, of_one, of_two, of_cases, of_unpacked}
 use Rattle.type_checker.specs.Walk.{Walk, found_at, found, continued, with_sides, with_body, walked}
-use Rattle.type_checker.proofs.Sides.{fits_left_side}
 use Rattle.type_checker.proofs.Single.{one_formula, left_side, right_side, sort_over, body_of}
 use Rattle.type_checker.proofs.Subproofs.{Numbered, Below, Past, AllTyped, IsFirst, Either, below_either, below_after, below_more, below_whole, past_either, past_after, past_less, past_whole, typed_either, typed_after, typed_whole, first_front, first_back, first_after, first_whole, first_same}
-use Rattle.type_checker.proofs.Exact.{has, finds, none_at}
+use Rattle.type_checker.proofs.Exact.{has, none_at}
 
 -- The parts that stand under what the parts before tell
 
@@ -203,8 +201,8 @@ module _ (names : List Decl) (variables : List Sort) (hypotheses : List FormulaT
       (f.0, f.1, first_front names Part (IsWhole variables hypotheses whole) count f.0 part (past_whole count variables hypotheses whole h) f.2)
 
 -- what stands after a part all of whose subproofs have formulas
-first_later : (names : List Decl) (n k count : ℕ) (Front Back : Numbered) → AllTyped names Front → FirstAt names Back n k → FirstAt names (Either Front Back) n k
-first_later names n k count Front Back front f = (f.0, f.1, first_back names Front Back f.0 front f.2)
+first_later : (names : List Decl) (n k : ℕ) (Front Back : Numbered) → AllTyped names Front → FirstAt names Back n k → FirstAt names (Either Front Back) n k
+first_later names n k Front Back front f = (f.0, f.1, first_back names Front Back f.0 front f.2)
 
 -- a walk of one part, and then the rule of the whole
 one_place : (names : List Decl) (variables : List Sort) (hypotheses : List FormulaTree) (whole : ProofTree) (n k : ℕ) (w : Walk) (rule : FormulaTree → Option FormulaTree) (Part : Numbered) (count : ℕ)
@@ -273,13 +271,17 @@ same_cases : (names : List Decl) (variables : List Sort) (hypotheses : List Form
     → Has names variables hypotheses p (joined or_else a b)
     → FirstAt names (Either (After (proof_nodes p) (IsSubproof names variables (a ∷ hypotheses) q)) (Either (After (proof_nodes p + proof_nodes q) (IsSubproof names variables (b ∷ hypotheses) r)) Whole)) n k
     → FirstAt names (Either (Cases names variables hypotheses p q r) Whole) n k
-same_cases names variables hypotheses p q r a b n k Whole h f =
-    (f.0, f.1, first_same names (Either Left (Either Right Whole)) (Either (Cases names variables hypotheses p q r) Whole) f.0
-    (λ j s x. ⊎_elim (λ (y : Left j s). inl (a, b, h, inl y)) (λ (y : Right j s ⊎ Whole j s). ⊎_elim (λ (z : Right j s). inl (a, b, h, inr z)) (λ (z : Whole j s). inr z) y) x)
-    (λ j s x. ⊎_elim (λ (y : Cases names variables hypotheses p q r j s). ⊎_elim (λ (z : Left j s). inl z) (λ (z : Right j s). inr (inl z)) (cases_of names variables hypotheses p q r a b h j s y)) (λ (y : Whole j s). inr (inr y)) x)
-    f.2) where
+same_cases names variables hypotheses p q r a b n k Whole h f = (
+  f.0,
+  f.1,
+  first_same names (Either Left (Either Right Whole)) (Either (Cases names variables hypotheses p q r) Whole) f.0
+      (λ j s x. ⊎_elim (λ (y : Left j s). inl (a, b, h, inl y)) (λ (y : Right j s ⊎ Whole j s). ⊎_elim (λ (z : Right j s). inl (a, b, h, inr z)) (λ (z : Whole j s). inr z) y) x)
+      (λ j s x. ⊎_elim (λ (y : Cases names variables hypotheses p q r j s). ⊎_elim (λ (z : Left j s). inl z) (λ (z : Right j s). inr (inl z)) (cases_of names variables hypotheses p q r a b h j s y)) (λ (y : Whole j s). inr (inr y)) x)
+      f.2,
+) where
   Left : Numbered
   Left = After (proof_nodes p) (IsSubproof names variables (a ∷ hypotheses) q)
+
   Right : Numbered
   Right = After (proof_nodes p + proof_nodes q) (IsSubproof names variables (b ∷ hypotheses) r)
 
@@ -287,11 +289,14 @@ same_unpacked : (names : List Decl) (variables : List Sort) (hypotheses : List F
     → Has names variables hypotheses p (quantified there_is r a)
     → FirstAt names (Either (UnpackedOf names variables hypotheses p q r a) Whole) n k
     → FirstAt names (Either (Unpacked names variables hypotheses p q) Whole) n k
-same_unpacked names variables hypotheses p q r a n k Whole h f =
-    (f.0, f.1, first_same names (Either (UnpackedOf names variables hypotheses p q r a) Whole) (Either (Unpacked names variables hypotheses p q) Whole) f.0
-    (λ j s x. ⊎_elim (λ (y : UnpackedOf names variables hypotheses p q r a j s). inl (r, a, h, y)) (λ (y : Whole j s). inr y) x)
-    (λ j s x. ⊎_elim (λ (y : Unpacked names variables hypotheses p q j s). inl (unpacked_of names variables hypotheses p q r a h j s y)) (λ (y : Whole j s). inr y) x)
-    f.2)
+same_unpacked names variables hypotheses p q r a n k Whole h f = (
+  f.0,
+  f.1,
+  first_same names (Either (UnpackedOf names variables hypotheses p q r a) Whole) (Either (Unpacked names variables hypotheses p q) Whole) f.0
+      (λ j s x. ⊎_elim (λ (y : UnpackedOf names variables hypotheses p q r a j s). inl (r, a, h, y)) (λ (y : Whole j s). inr y) x)
+      (λ j s x. ⊎_elim (λ (y : Unpacked names variables hypotheses p q j s). inl (unpacked_of names variables hypotheses p q r a h j s y)) (λ (y : Whole j s). inr y) x)
+      f.2,
+)
 
 past_cases : (names : List Decl) (variables : List Sort) (hypotheses : List FormulaTree) (p q r : ProofTree) → Past (proof_nodes p) (Cases names variables hypotheses p q r)
 past_cases names variables hypotheses p q r k s x =
@@ -339,7 +344,7 @@ place names variables hypotheses (by_cases p q r) n k e =
     same_cases names variables hypotheses p q r d.0 d.1 n k (IsWhole variables hypotheses (by_cases p q r)) (subst (λ x. Has names variables hypotheses p x) d.2 i.0)
     (two_place names variables hypotheses (by_cases p q r) n k (walked names variables (d.0 ∷ hypotheses) q h.1) (λ j. walked names variables (d.1 ∷ hypotheses) r j) (λ x y. of_cases x y)
     (After (proof_nodes p) (IsSubproof names variables (d.0 ∷ hypotheses) q)) (After (proof_nodes p + proof_nodes q) (IsSubproof names variables (d.1 ∷ hypotheses) r)) (proof_nodes p + proof_nodes q) (proof_nodes p + proof_nodes q + proof_nodes r)
-    none refl (omega arith)
+    none (omega arith) (omega arith)
     (below_after (proof_nodes p) (proof_nodes q) (IsSubproof names variables (d.0 ∷ hypotheses) q) (below names variables (d.0 ∷ hypotheses) q))
     (past_after (proof_nodes p + proof_nodes q) (IsSubproof names variables (d.1 ∷ hypotheses) r))
     (below_after (proof_nodes p + proof_nodes q) (proof_nodes r) (IsSubproof names variables (d.1 ∷ hypotheses) r) (below names variables (d.1 ∷ hypotheses) r))
@@ -349,7 +354,7 @@ place names variables hypotheses (by_cases p q r) n k e =
     (λ m at g l u. given_later names n m l (proof_nodes p + proof_nodes q) (proof_nodes r) (IsSubproof names variables (d.1 ∷ hypotheses) r) at (given_part names variables (d.1 ∷ hypotheses) r m g l u))
     d.3))
     (λ (d : (k ≡ h.1 + proof_nodes q + proof_nodes r) × ((a b : FormulaTree) → h.0 ≡ joined or_else a b → ⊥)).
-    after_part names variables hypotheses (by_cases p q r) none n k (Cases names variables hypotheses p q r) (proof_nodes p + proof_nodes q + proof_nodes r) refl
+    after_part names variables hypotheses (by_cases p q r) none n k (Cases names variables hypotheses p q r) (proof_nodes p + proof_nodes q + proof_nodes r) (omega arith)
     (λ j s x. absurd (d.1 x.0 x.1 (one_formula names variables hypotheses p h.0 (joined or_else x.0 x.1) i.0 x.2)))
     (at_third n k h.1 (proof_nodes p) (proof_nodes q) (proof_nodes r) i.1 d.0))
     (sides_err h.0 (h.1 + proof_nodes q + proof_nodes r) (λ a b. continued (walked names variables (a ∷ hypotheses) q h.1) (λ c j. continued (walked names variables (b ∷ hypotheses) r j) (λ d l. found (of_cases c d) l))) k h.3)))
@@ -368,13 +373,13 @@ place names variables hypotheses (unpack p q) n k e =
     same_unpacked names variables hypotheses p q d.0 d.1 n k (IsWhole variables hypotheses (unpack p q)) (subst (λ x. Has names variables hypotheses p x) d.2 i.0)
     (one_place names variables hypotheses (unpack p q) n k (walked names (d.0 ∷ variables) (d.1 ∷ raised hypotheses) q h.1) (λ c. of_unpacked c)
     (UnpackedOf names variables hypotheses p q d.0 d.1) (proof_nodes p + proof_nodes q)
-    none refl
+    none (omega arith)
     (below_after (proof_nodes p) (proof_nodes q) (IsSubproof names (d.0 ∷ variables) (d.1 ∷ raised hypotheses) q) (below names (d.0 ∷ variables) (d.1 ∷ raised hypotheses) q))
     (λ u. later names n h.1 k (proof_nodes p) (IsSubproof names (d.0 ∷ variables) (d.1 ∷ raised hypotheses) q) i.1 (place names (d.0 ∷ variables) (d.1 ∷ raised hypotheses) q h.1 k u))
     (λ f m u. given_later names n h.1 m (proof_nodes p) (proof_nodes q) (IsSubproof names (d.0 ∷ variables) (d.1 ∷ raised hypotheses) q) i.1 (given_part names (d.0 ∷ variables) (d.1 ∷ raised hypotheses) q h.1 f m u))
     d.3))
     (λ (d : (k ≡ h.1 + proof_nodes q) × ((s : Sort) (a : FormulaTree) → h.0 ≡ quantified there_is s a → ⊥)).
-    after_part names variables hypotheses (unpack p q) none n k (Unpacked names variables hypotheses p q) (proof_nodes p + proof_nodes q) refl
+    after_part names variables hypotheses (unpack p q) none n k (Unpacked names variables hypotheses p q) (proof_nodes p + proof_nodes q) (omega arith)
     (λ j s x. absurd (d.1 x.0 x.1 (one_formula names variables hypotheses p h.0 (quantified there_is x.0 x.1) i.0 x.2)))
     (at_second n k h.1 (proof_nodes p) (proof_nodes q) i.1 d.0))
     (body_err h.0 (h.1 + proof_nodes q) (λ s a. continued (walked names (s ∷ variables) (a ∷ raised hypotheses) q h.1) (λ c j. found (of_unpacked c) j)) k h.3)))
@@ -382,7 +387,7 @@ place names variables hypotheses (unpack p q) n k e =
 place names variables hypotheses (application p q) n k e =
     two_place names variables hypotheses (application p q) n k (walked names variables hypotheses p n) (λ m. walked names variables hypotheses q m) (λ f g. of_two names variables (application p q) f g)
     (IsSubproof names variables hypotheses p) (After (proof_nodes p) (IsSubproof names variables hypotheses q)) (proof_nodes p) (proof_nodes p + proof_nodes q)
-    (none_at names variables hypotheses (application p q) n k e) refl (omega arith) (below names variables hypotheses p) (past_after (proof_nodes p) (IsSubproof names variables hypotheses q)) (below_after (proof_nodes p) (proof_nodes q) (IsSubproof names variables hypotheses q) (below names variables hypotheses q))
+    (none_at names variables hypotheses (application p q) n k e) (omega arith) (omega arith) (below names variables hypotheses p) (past_after (proof_nodes p) (IsSubproof names variables hypotheses q)) (below_after (proof_nodes p) (proof_nodes q) (IsSubproof names variables hypotheses q) (below names variables hypotheses q))
     (λ u. place names variables hypotheses p n k u) (λ f m u. given_part names variables hypotheses p n f m u)
     (λ m at u. later names n m k (proof_nodes p) (IsSubproof names variables hypotheses q) at (place names variables hypotheses q m k u))
     (λ m at g l u. given_later names n m l (proof_nodes p) (proof_nodes q) (IsSubproof names variables hypotheses q) at (given_part names variables hypotheses q m g l u))
@@ -390,7 +395,7 @@ place names variables hypotheses (application p q) n k e =
 place names variables hypotheses (pair p q) n k e =
     two_place names variables hypotheses (pair p q) n k (walked names variables hypotheses p n) (λ m. walked names variables hypotheses q m) (λ f g. of_two names variables (pair p q) f g)
     (IsSubproof names variables hypotheses p) (After (proof_nodes p) (IsSubproof names variables hypotheses q)) (proof_nodes p) (proof_nodes p + proof_nodes q)
-    (none_at names variables hypotheses (pair p q) n k e) refl (omega arith) (below names variables hypotheses p) (past_after (proof_nodes p) (IsSubproof names variables hypotheses q)) (below_after (proof_nodes p) (proof_nodes q) (IsSubproof names variables hypotheses q) (below names variables hypotheses q))
+    (none_at names variables hypotheses (pair p q) n k e) (omega arith) (omega arith) (below names variables hypotheses p) (past_after (proof_nodes p) (IsSubproof names variables hypotheses q)) (below_after (proof_nodes p) (proof_nodes q) (IsSubproof names variables hypotheses q) (below names variables hypotheses q))
     (λ u. place names variables hypotheses p n k u) (λ f m u. given_part names variables hypotheses p n f m u)
     (λ m at u. later names n m k (proof_nodes p) (IsSubproof names variables hypotheses q) at (place names variables hypotheses q m k u))
     (λ m at g l u. given_later names n m l (proof_nodes p) (proof_nodes q) (IsSubproof names variables hypotheses q) at (given_part names variables hypotheses q m g l u))
@@ -398,7 +403,7 @@ place names variables hypotheses (pair p q) n k e =
 place names variables hypotheses (rewriting b p q) n k e =
     two_place names variables hypotheses (rewriting b p q) n k (walked names variables hypotheses p n) (λ m. walked names variables hypotheses q m) (λ f g. of_two names variables (rewriting b p q) f g)
     (IsSubproof names variables hypotheses p) (After (proof_nodes p) (IsSubproof names variables hypotheses q)) (proof_nodes p) (proof_nodes p + proof_nodes q)
-    (none_at names variables hypotheses (rewriting b p q) n k e) refl (omega arith) (below names variables hypotheses p) (past_after (proof_nodes p) (IsSubproof names variables hypotheses q)) (below_after (proof_nodes p) (proof_nodes q) (IsSubproof names variables hypotheses q) (below names variables hypotheses q))
+    (none_at names variables hypotheses (rewriting b p q) n k e) (omega arith) (omega arith) (below names variables hypotheses p) (past_after (proof_nodes p) (IsSubproof names variables hypotheses q)) (below_after (proof_nodes p) (proof_nodes q) (IsSubproof names variables hypotheses q) (below names variables hypotheses q))
     (λ u. place names variables hypotheses p n k u) (λ f m u. given_part names variables hypotheses p n f m u)
     (λ m at u. later names n m k (proof_nodes p) (IsSubproof names variables hypotheses q) at (place names variables hypotheses q m k u))
     (λ m at g l u. given_later names n m l (proof_nodes p) (proof_nodes q) (IsSubproof names variables hypotheses q) at (given_part names variables hypotheses q m g l u))
@@ -447,7 +452,8 @@ pub place_from_zero : (names : List Decl) (variables : List Sort) (hypotheses : 
     → walked names variables hypotheses p 0 ≡ Err k → IsFirstUntyped names variables hypotheses p k
 place_from_zero names variables hypotheses p k e =
     let f = place names variables hypotheses p 0 k e in
-    subst (λ j. IsFirstUntyped names variables hypotheses p j) (sym f.1) f.2
+    let same : f.0 ≡ k = omega (arith, f.1) in
+    subst (λ j. IsFirstUntyped names variables hypotheses p j) same f.2
 
 -- The laws
 

@@ -1,8 +1,7 @@
 -- Where a substitution keeps every index below 2^32: a well-sorted formula that fits has only indices below
 -- the number of bound variables around it and its depth.
-use Rattle.std.proofs.Common.{◌≡◌, ◌≢◌, ℕ, zero, suc, ◌+◌, ◌-◌, ◌^◌, ◌<◌, ◌≤◌, ◌&&◌, nat_lt, nat_le, ◌==◌, true, false, Bool, if◌then◌else◌, List, [], ◌∷◌, length, Option, Some, None, slice_get, max, ⊎_elim, refl, sym, ◌∙◌, ap, subst, arith}
-use Rattle.std.proofs.lemmas.Bool.{and_parts, and_from, cases_lt, lt-ltb, le-ltb}
-use Rattle.std.proofs.lemmas.Bool.Decides.{eqb_tells}
+use Rattle.std.proofs.Common.{◌≡◌, ℕ, suc, ◌+◌, ◌-◌, ◌^◌, ◌<◌, ◌≤◌, ◌&&◌, nat_lt, ◌==◌, true, false, Bool, if◌then◌else◌, List, ◌∷◌, length, Some, None, refl, arith}
+use Rattle.std.proofs.lemmas.Bool.{and_parts}
 use Rattle.std.proofs.lemmas.Option.{slice_get_within}
 use Rattle.ck_base.specs.declared.decl.Sort.{Sort}
 use Rattle.ck_base.specs.declared.decl.Sort.TheVariants as sort
@@ -10,7 +9,7 @@ use Rattle.ck_base.specs.declared.decl.Decl.{Decl}
 use Rattle.sorted_terms.specs.Tree.{TermTree, name, index, integer, boolean, unary, binary}
 use Rattle.sorted_terms.specs.Sorts.{sort_of, has_sort, unary_takes, binary_takes, binary_gives, term_size, term_depth}
 use Rattle.sorted_terms.specs.Substitution.{shift_term, instance_at, instance_term, HasTermIndicesBelow}
-use Rattle.sorted_terms.proofs.Sizes.{term_size_positive, term_depth_positive, shift_keeps_size, shift_keeps_depth}
+use Rattle.sorted_terms.proofs.Sizes.{term_size_positive, term_depth_positive}
 use Rattle.formulas.specs.Tree.{FormulaTree, for_all, bottom, holds, joined, quantified}
 use Rattle.formulas.specs.Sorts.{well_sorted, fits, size, depth}
 use Rattle.formulas.specs.Substitution.{shift, instance, HasIndicesBelow}

@@ -1,5 +1,5 @@
 -- The parts of a formula that fits, fit, and so does what has fewer nodes and levels.
-use Rattle.std.proofs.Common.{◌≡◌, ℕ, ◌+◌, ◌≤◌, true, nat_le, max, arith}
+use Rattle.std.proofs.Common.{◌≡◌, ◌≤◌, true, nat_le, arith}
 use Rattle.std.proofs.lemmas.Bool.{and_parts, and_from, leb-true, le-leb}
 use Rattle.ck_base.specs.declared.decl.Sort.{Sort}
 use Rattle.formulas.specs.Tree.{FormulaTree, Connective, implies, Quantifier, joined, quantified}

@@ -1,5 +1,5 @@
 -- A proof has at most one formula, by induction on the proof.
-use Rattle.std.proofs.Common.{◌≡◌, List, ◌∷◌, Some, refl, sym, ap, subst, ◌∙◌}
+use Rattle.std.proofs.Common.{◌≡◌, List, ◌∷◌, sym, ap, subst, ◌∙◌}
 use Rattle.ck_base.specs.declared.decl.Decl.{Decl}
 use Rattle.ck_base.specs.declared.decl.Sort.{Sort}
 use Rattle.sorted_terms.specs.Tree.{TermTree, binary, equal}

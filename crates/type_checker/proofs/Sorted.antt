@@ -1,22 +1,22 @@
 -- Formulas of proofs may be hypotheses again, where all hypotheses may be.
-use Rattle.std.proofs.Common.{◌≡◌, ℕ, zero, suc, ◌+◌, ◌&&◌, true, false, Bool, if◌then◌else◌, List, [], ◌∷◌, Option, Some, None, slice_get, Result, Ok, Err, max, refl, sym, ◌∙◌, ap, subst, arith}
+use Rattle.std.proofs.Common.{◌≡◌, ℕ, zero, suc, ◌+◌, ◌&&◌, true, false, Bool, if◌then◌else◌, List, [], ◌∷◌, Option, Some, None, slice_get, refl, sym, ◌∙◌, ap, subst}
 use Rattle.std.proofs.lemmas.Bool.{and_parts, and_from}
 use Rattle.ck_base.specs.declared.decl.Sort.{Sort}
 use Rattle.ck_base.specs.declared.decl.Sort.TheVariants as sort
 use Rattle.ck_base.specs.declared.decl.Decl.{Decl}
 use Rattle.sorted_terms.specs.Tree.{TermTree, binary, equal}
-use Rattle.sorted_terms.specs.Sorts.{sort_of, has_sort, same_sort}
+use Rattle.sorted_terms.specs.Sorts.{sort_of, has_sort}
 use Rattle.sorted_terms.proofs.Sizes.{shift_keeps_size, shift_keeps_depth}
 use Rattle.formulas.specs.Tree.{FormulaTree, Connective, implies, and_also, or_else, Quantifier, for_all, there_is, bottom, holds, joined, quantified, not_so}
 use Rattle.formulas.specs.Sorts.{well_sorted, fits, size, depth}
-use Rattle.formulas.specs.Substitution.{shift, instance}
+use Rattle.formulas.specs.Substitution.{shift}
 use Rattle.formulas.specs.Context.{raised}
 use Rattle.formulas.proofs.Substituting.{sorted_shift, sorted_instance}
 use Rattle.arith_axioms.proofs.Sorting.{axiom_sorted, induction_sorted}
 use Rattle.proof_terms.specs.Tree.{ProofTree, hypothesis, lambda, application, general, special, pair, first, second, left_of, right_of, by_cases, pack, unpack, from_bottom, stable, reflexive, rewriting, an_axiom, induction, computing}
 use Rattle.type_checker.specs.Typing.{Has}
 use Rattle.type_checker.specs.Place.{is_assumable, AreAssumable}
-use Rattle.type_checker.proofs.Sides.{fits_smaller, fits_left_side, fits_right_side, fits_body}
+use Rattle.type_checker.proofs.Sides.{fits_left_side, fits_right_side, fits_body}
 
 -- The formula of a proof fits.
 pub fitting : (names : List Decl) (variables : List Sort) (hypotheses : List FormulaTree) (p : ProofTree) (a : FormulaTree)

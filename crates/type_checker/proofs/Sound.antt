@@ -1,13 +1,10 @@
 -- The formula of a proof is true where all hypotheses are, by induction on the proof.
-use Rattle.std.proofs.Common.{◌≡◌, ℕ, zero, suc, Bool, true, false, List, [], ◌∷◌, Some, slice_get, refl, sym, subst, ◌∙◌, ap, arith}
+use Rattle.std.proofs.Common.{◌≡◌, ℕ, zero, suc, true, List, [], ◌∷◌, Some, slice_get, sym, subst, ap}
 use mathlib.Core.Path.{transport}
-use Rattle.std.proofs.lemmas.Int.{ints}
-use Rattle.std.specs.Prelude.{ℤ}
-use lib.Signed.{le_z}
 use Rattle.ck_base.specs.declared.decl.Decl.{Decl}
 use Rattle.ck_base.specs.declared.decl.Sort.{Sort}
-use Rattle.sorted_terms.specs.Tree.{TermTree, binary, equal}
-use Rattle.sorted_terms.specs.Values.{Value, number, truth, same_integer, same_boolean, same_value, IsOf, State, Environment, IsState, AreOf, value}
+use Rattle.sorted_terms.specs.Tree.{binary, equal}
+use Rattle.sorted_terms.specs.Values.{Value, number, truth, same_value, State, Environment, IsState, AreOf, value}
 use Rattle.sorted_terms.proofs.Substituting.{value_sorted}
 use Rattle.formulas.specs.Tree.{FormulaTree, bottom, holds, joined, implies, and_also, or_else, quantified, for_all, there_is, not_so}
 use Rattle.formulas.specs.Truth.{Truth, AllTrue}

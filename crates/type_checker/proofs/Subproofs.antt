@@ -1,5 +1,5 @@
 -- The first subproof without a formula, along parts that stand one after the other.
-use Rattle.std.proofs.Common.{◌≡◌, ◌⊎◌, inl, inr, ⊎_elim, ℕ, suc, ◌+◌, ◌<◌, ◌≤◌, List, ◌∷◌, refl, sym, subst, arith}
+use Rattle.std.proofs.Common.{◌≡◌, ◌⊎◌, inl, inr, ⊎_elim, ℕ, suc, ◌+◌, ◌<◌, ◌≤◌, List, refl, sym, subst, arith}
 use Rattle.ck_base.specs.declared.decl.Sort.{Sort}
 use Rattle.ck_base.specs.declared.decl.Decl.{Decl}
 use Rattle.formulas.specs.Tree.{FormulaTree}
@@ -82,9 +82,10 @@ first_after names count place Part h =
 
 pub first_whole : (names : List Decl) (variables : List Sort) (hypotheses : List FormulaTree) (p : ProofTree) (place : ℕ)
     → suc place ≡ proof_nodes p → ((a : FormulaTree) → Has names variables hypotheses p a → ⊥) → IsFirst names (IsWhole variables hypotheses p) place
-first_whole names variables hypotheses p place e none =
-    ((record { variables = variables; hypotheses = hypotheses; proof = p }, (e, refl), λ t. none t.0 t.1),
-    λ k less s x. let end : suc k ≡ proof_nodes p = x.0 in absurd (omega (arith, less, end, e)))
+first_whole names variables hypotheses p place e none = (
+  (record { variables = variables; hypotheses = hypotheses; proof = p }, (e, refl), λ t. none t.0 t.1),
+  λ k less s x. let end : suc k ≡ proof_nodes p = x.0 in absurd (omega (arith, less, end, e)),
+)
 
 -- the same subproofs, told in another way
 pub first_same : (names : List Decl) (Part Other : Numbered) (place : ℕ)

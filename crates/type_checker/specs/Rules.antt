@@ -1,12 +1,12 @@
 -- The typing rules, computed: which formula a node has, where its parts have theirs, and none where a
 -- condition of its rule fails.
-use Rattle.std.specs.Prelude.{ℕ, Bool, true, false, ◌&&◌, not, if◌then◌else◌, List, ◌∷◌, Option, Some, None, slice_get, Result, Ok, Err}
+use Rattle.std.specs.Prelude.{Bool, true, false, ◌&&◌, not, if◌then◌else◌, List, ◌∷◌, Option, Some, None, slice_get, Result, Ok, Err}
 use Rattle.ck_base.specs.declared.decl.Sort.{Sort}
 use Rattle.ck_base.specs.declared.decl.Sort.TheVariants as sort
 use Rattle.ck_base.specs.declared.decl.Decl.{Decl}
 use Rattle.sorted_terms.specs.Tree.{TermTree, boolean, binary, equal}
 use Rattle.sorted_terms.specs.Sorts.{sort_of, has_sort}
-use Rattle.formulas.specs.Tree.{FormulaTree, bottom, holds, joined, implies, and_also, or_else, quantified, for_all, there_is, not_so}
+use Rattle.formulas.specs.Tree.{FormulaTree, bottom, holds, joined, implies, and_also, or_else, quantified, for_all, there_is}
 use Rattle.formulas.specs.Sorts.{well_sorted, fits}
 use Rattle.formulas.specs.Substitution.{occurs, instance}
 use Rattle.arith_axioms.specs.declared.no_compute.NoCompute.{NoCompute}

@@ -1,6 +1,6 @@
 -- The rules along a proof: the formula of each node, or the number of the first node in post-order that has
 -- none.
-use Rattle.std.specs.Prelude.{◌≡◌, ℕ, ◌+◌, if◌then◌else◌, List, ◌∷◌, Option, Some, None, Result, Ok, Err}
+use Rattle.std.specs.Prelude.{ℕ, ◌+◌, if◌then◌else◌, List, ◌∷◌, Option, Some, None, Result, Ok, Err}
 use Rattle.ck_base.specs.declared.decl.Sort.{Sort}
 use Rattle.ck_base.specs.declared.decl.Decl.{Decl}
 use Rattle.formulas.specs.Tree.{FormulaTree, joined, implies, or_else, quantified, for_all, there_is}
