@@ -9,7 +9,7 @@ use Rattle.formulas.specs.Substitution.{shift, instance}
 use Rattle.formulas.specs.Context.{raised}
 use Rattle.proof_terms.specs.Tree.{ProofTree, hypothesis, lambda, application, general, special, pair, first, second, left_of, right_of, by_cases, pack, unpack, from_bottom, stable, reflexive, rewriting, an_axiom, induction, computing, ring_equal, hole}
 use Rattle.type_checker.specs.Typing.{Has}
-use Rattle.type_checker.specs.Place.{proof_nodes, Subproof, IsSubproof, IsWhole, After, IsFirstUntyped, is_assumable, AreAssumable}
+use Rattle.type_checker.specs.Place.{proof_nodes, Subproof, IsSubproof, IsWhole, After, IsFirstUntyped, is_assumable}
 use Rattle.type_checker.specs.Rules.{fitting, of_leaf, of_one, of_two, of_cases, of_unpacked}
 use Rattle.type_checker.specs.Walk.{Walk, found_at, found, continued, with_sides, with_body, walked}
 use Rattle.type_checker.proofs.Single.{one_formula, left_side, right_side, sort_over, body_of}
@@ -458,9 +458,8 @@ place_from_zero names variables hypotheses p k e =
 -- The laws
 
 pub typed_or_not : (names : List Decl) (variables : List Sort) (hypotheses : List FormulaTree) (p : ProofTree)
-    → AreAssumable names variables hypotheses
     → ((a : FormulaTree) × Has names variables hypotheses p a) ⊎ ((place : ℕ) × IsFirstUntyped names variables hypotheses p place)
-typed_or_not names variables hypotheses p all = by (walked names variables hypotheses p 0) refl where
+typed_or_not names variables hypotheses p = by (walked names variables hypotheses p 0) refl where
   by : (w : Walk) → walked names variables hypotheses p 0 ≡ w → ((a : FormulaTree) × Has names variables hypotheses p a) ⊎ ((place : ℕ) × IsFirstUntyped names variables hypotheses p place)
   by (Ok r) e = inl (r.0, (has names variables hypotheses p 0 r.0 r.1 e).0)
   by (Err k) e = inr (k, place_from_zero names variables hypotheses p k e)

@@ -34,7 +34,6 @@ FormulasAreAssumable =
 abbrev pub TypedOrNot : Type 0
 TypedOrNot =
     (names : List Decl) (variables : List Sort) (hypotheses : List FormulaTree) (p : ProofTree)
-    → AreAssumable names variables hypotheses
     → ((a : FormulaTree) × Has names variables hypotheses p a) ⊎ ((place : ℕ) × IsFirstUntyped names variables hypotheses p place)
 
 -- not both
