@@ -10,7 +10,6 @@ use Rattle.formulas.specs.Tree.{FormulaTree, bottom, holds, joined, quantified, 
 use Rattle.formulas.specs.Sorts.{well_sorted, size}
 use Rattle.proof_terms.specs.Tree.{ProofTree, hypothesis, lambda, application}
 use Rattle.proof_terms.specs.Size.{proof_size}
-use Rattle.type_checker.specs.Built.{IsBuilt as IsBuiltTerm}
 use Rattle.type_checker.specs.Place.{proof_nodes}
 use Rattle.cert_codec.specs.Tree.{NodeTree, skip, CertificateTree}
 use Rattle.cert_codec.specs.Spelling.{is_built_formula, spell_formula, spell_number, spell_proof, spell_node, spell_decl, spell, IsBuiltProof, IsBuiltNode, IsBuilt, Spells}
@@ -21,13 +20,6 @@ use Rattle.cert_check.specs.Valid.{IsFileOf, AreSorted, IsSmall, node_size, Vali
 and_parts : (a b : Bool) → (a && b) ≡ true → (a ≡ true) × (b ≡ true)
 and_parts true b e = (refl, e)
 and_parts false b e = absurd (cc)
-
--- the typing rules of a built proof are built
-pub built_proof : (p : ProofTree) → IsBuiltProof p → IsBuiltTerm p
-built_proof (hypothesis k) h = tt
-built_proof (lambda a p) h = built_proof p h.1
-built_proof (application p q) h = (built_proof p h.0, built_proof q h.1)
-built_proof p h = absurd h
 
 -- a proof has no more proof nodes than nodes
 pub nodes_within_size : (p : ProofTree) → IsBuiltProof p → proof_nodes p ≤ proof_size p

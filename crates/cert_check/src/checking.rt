@@ -130,7 +130,7 @@ fn is_proved(alloc: Global, c: &Certificate) -> Result<bool, NoMemory>
 }
 
 // Whether the proof has the formula that `a` implies `b`, in the empty context.
-#[tactic(auto, using(crate::proofs::Built::built_proof, crate::proofs::Built::nodes_within_size, type_checker::proofs::Single::one_formula))]
+#[tactic(auto, using(crate::proofs::Built::nodes_within_size, type_checker::proofs::Single::one_formula))]
 fn shows(
     alloc: Global,
     decls: &Decls,

@@ -1,7 +1,7 @@
 -- What every derivation that steps reach keeps, and that what it exports is a valid file.
 use Rattle.std.proofs.Common.{◌≡◌, ℕ, zero, suc, ◌+◌, ◌-◌, ◌*◌, ◌/◌, ◌%◌, ◌^◌, ◌<◌, ◌≤◌, max, Bool, true, false, ◌&&◌, List, [], ◌∷◌, ◌++◌, length, reverse, map, refl, sym, ap, subst, ◌∙◌, arith, slice_get, Option, Some, None, nat_lt, nat_le, if◌then◌else◌}
 use Rattle.std.proofs.lemmas.List.{length-append, length-reverse, reverse-reverse}
-use Rattle.std.proofs.lemmas.Bool.{and_parts, leb-true}
+use Rattle.std.proofs.lemmas.Bool.{and_parts, and_from, leb-true}
 use Rattle.std.specs.List.{flat_map}
 use Rattle.sorted_terms.specs.Tree.{boolean}
 use Rattle.formulas.specs.declared.context.Context.{Context}
@@ -11,6 +11,7 @@ use Rattle.formulas.specs.Sorts.{well_sorted, fits, size, depth}
 use Rattle.proof_terms.specs.Tree.{ProofTree, hypothesis, lambda, application}
 use Rattle.proof_terms.specs.Size.{proof_depth, proof_size}
 use Rattle.type_checker.specs.Typing.{Has}
+use Rattle.type_checker.specs.Place.{AreAssumable}
 use Rattle.type_checker.proofs.Sides.{fits_left, fits_right}
 use Rattle.cert_codec.specs.Tree.{NodeTree, skip, CertificateTree}
 use Rattle.cert_codec.specs.Spelling.{is_built_formula, IsBuiltProof, IsBuiltNode, IsBuilt, HasShallowFormulas, IsShallowNode, IsShallow, number_bytes, spell_number, spell_term, spell_formula, spell_proof, spell_node, spell, Spells}
@@ -54,6 +55,19 @@ fits_inner (h ∷ hypotheses) a e = fits_right h a (fits_inner hypotheses (joine
 built_inner : (hypotheses : List FormulaTree) (a : FormulaTree) → is_built_formula (implied hypotheses a) ≡ true → is_built_formula a ≡ true
 built_inner [] a e = e
 built_inner (h ∷ hypotheses) a e = (and_parts (is_built_formula h) (is_built_formula a) (built_inner hypotheses (joined implies h a) e)).1
+
+assumable_inner : (hypotheses : List FormulaTree) (a : FormulaTree) → fits (implied hypotheses a) ≡ true → is_built_formula (implied hypotheses a) ≡ true → AreAssumable [] [] hypotheses
+assumable_inner [] a fit built = tt
+assumable_inner (b ∷ hypotheses) a fit built =
+    let sides = and_parts (is_built_formula b) (is_built_formula a) (built_inner hypotheses (joined implies b a) built) in
+    (and_from (fits b) (well_sorted [] [] b) (fits_left b a (fits_inner hypotheses (joined implies b a) fit)) (sorted_formula [] [] b sides.0), assumable_inner hypotheses (joined implies b a) fit built)
+
+-- the hypotheses of an open proof fit and are well-sorted
+pub assumed_kept : (d : DerivationTree) (hypotheses : List FormulaTree) (goal : FormulaTree) → IsDerived d → d.progress ≡ proving hypotheses goal → AreAssumable [] [] hypotheses
+assumed_kept d hypotheses goal h e =
+    let answers : AnswersFor d.pre d.post (proving hypotheses goal) = subst (AnswersFor d.pre d.post) e h.answers in
+    let built : is_built_formula (joined implies d.pre d.post) ≡ true = and_from (is_built_formula d.pre) (is_built_formula d.post) h.pre h.post in
+    assumable_inner hypotheses goal (subst (λ x. fits x ≡ true) (sym answers.0) answers.1) (subst (λ x. is_built_formula x ≡ true) (sym answers.0) built)
 
 -- the proof under its lambdas has the whole implication
 closes : (hypotheses : List FormulaTree) (p : ProofTree) (a : FormulaTree) → fits (implied hypotheses a) ≡ true → is_built_formula (implied hypotheses a) ≡ true → Has [] [] hypotheses p a → Has [] [] [] (abstracted hypotheses p) (implied hypotheses a)

@@ -7,6 +7,7 @@ ghost use Rattle.formulas.specs.Sorts.{fits as fits_tree, size as size_of};
 ghost use Rattle.formulas.specs.Context.{hypotheses_of};
 ghost use Rattle.proof_terms.specs.Tree.{proof_tree};
 ghost use Rattle.proof_terms.specs.Size.{proof_size};
+ghost use Rattle.type_checker.specs.Place.{AreAssumable};
 ghost use Rattle.type_checker.specs.Typing.{Has};
 ghost use Rattle.cert_codec.specs.Tree.{checked_tree};
 ghost use Rattle.cert_codec.specs.Spelling.{is_built_formula, IsBuiltProof};
@@ -264,9 +265,10 @@ fn assume(context: &mut Context, goal: &mut Formula) -> Result<(), NoMemory>
 }
 
 // Whether the proof has the formula in the context.
-#[tactic(auto, using(cert_check::proofs::Built::built_proof, cert_check::proofs::Built::nodes_within_size, type_checker::proofs::Single::one_formula))]
+#[tactic(auto, using(cert_check::proofs::Built::nodes_within_size, type_checker::proofs::Single::one_formula))]
 fn shows(alloc: Global, context: &Context, a: &Formula, p: &Proof) -> Result<bool, NoMemory>
     requires closed { context.now.sorts ≡ [] }
+    requires assumed { AreAssumable [] [] (hypotheses_of context.now) }
     requires built { IsBuiltProof (proof_tree p.now) }
     requires few { proof_size (proof_tree p.now) < 2 ^ 31 }
     ensures { IfOk result (λ yes. MatchBool yes (Has [] [] (hypotheses_of context.now) (proof_tree p.now) (formula_tree a.now))

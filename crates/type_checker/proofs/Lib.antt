@@ -1,5 +1,14 @@
+pub mod Same
+pub mod Symmetry
+pub mod Raising
+pub mod Sides
+pub mod Sorted
+pub mod Rooms
+pub mod Ruled
 pub mod Sound
 pub mod Single
-pub mod Same
-pub mod Sides
+pub mod Lowering
+pub mod Subproofs
 pub mod Exact
+pub mod Firsts
+pub mod Answered

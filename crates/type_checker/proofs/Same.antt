@@ -47,19 +47,19 @@ sort_same : (s : Sort) → same_sort s s ≡ true
 sort_same sort.Int = refl
 sort_same sort.Bool = refl
 
-boolean_is : (a b : Bool) → same_boolean a b ≡ true → a ≡ b
+pub boolean_is : (a b : Bool) → same_boolean a b ≡ true → a ≡ b
 boolean_is true true e = refl
 boolean_is false false e = refl
 boolean_is a b e = absurd (cc)
 
-boolean_same : (b : Bool) → same_boolean b b ≡ true
+pub boolean_same : (b : Bool) → same_boolean b b ≡ true
 boolean_same true = refl
 boolean_same false = refl
 
-integer_is : (m n : ℤ) → same_integer m n ≡ true → m ≡ n
+pub integer_is : (m n : ℤ) → same_integer m n ≡ true → m ≡ n
 integer_is m n e = let p = and_parts (le_z m n) (le_z n m) e in grind (arith, ints, p.0, p.1)
 
-integer_same : (n : ℤ) → same_integer n n ≡ true
+pub integer_same : (n : ℤ) → same_integer n n ≡ true
 integer_same n = let p : le_z n n ≡ true = grind (arith, ints) in and_from _ _ p p
 
 term_is : (s t : TermTree) → same_term s t ≡ true → s ≡ t

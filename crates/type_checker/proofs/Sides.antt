@@ -1,48 +1,37 @@
--- The sides of an implication.
-use Rattle.std.proofs.Common.{◌≡◌, ◌+◌, ◌≤◌, Bool, true, false, nat_le, max, if◌then◌else◌, Option, Some, None, refl, subst, arith}
+-- The parts of a formula that fits, fit, and so does what has fewer nodes and levels.
+use Rattle.std.proofs.Common.{◌≡◌, ◌≤◌, true, nat_le, arith}
 use Rattle.std.proofs.lemmas.Bool.{and_parts, and_from, leb-true, le-leb}
-use Rattle.formulas.specs.Tree.{FormulaTree, joined, implies}
+use Rattle.ck_base.specs.declared.decl.Sort.{Sort}
+use Rattle.formulas.specs.Tree.{FormulaTree, Connective, implies, Quantifier, joined, quantified}
 use Rattle.formulas.specs.Sorts.{size, depth, fits}
-use Rattle.type_checker.specs.Same.{same_formula}
-use Rattle.type_checker.specs.Walk.{right_of}
-use Rattle.type_checker.proofs.Same.{formula_is}
 
--- the left part of a formula that fits, fits
+pub fits_bounds : (a : FormulaTree) → fits a ≡ true → (size a ≤ 16384) × (depth a ≤ 256)
+unfolding fits
+fits_bounds a h =
+    let parts = and_parts (nat_le (size a) 16384) (nat_le (depth a) 256) h in
+    (leb-true _ _ parts.0, leb-true _ _ parts.1)
+
+pub fits_within : (a : FormulaTree) → size a ≤ 16384 → depth a ≤ 256 → fits a ≡ true
+unfolding fits
+fits_within a few low = and_from _ _ (le-leb _ _ few) (le-leb _ _ low)
+
+pub fits_smaller : (a b : FormulaTree) → size a ≤ size b → depth a ≤ depth b → fits b ≡ true → fits a ≡ true
+fits_smaller a b few low h =
+    let bounds = fits_bounds b h in
+    fits_within a (omega (arith, few, bounds.0)) (omega (arith, low, bounds.1))
+
+pub fits_left_side : (c : Connective) (a b : FormulaTree) → fits (joined c a b) ≡ true → fits a ≡ true
+fits_left_side c a b h = fits_smaller a (joined c a b) (omega arith) (omega arith) h
+
+pub fits_right_side : (c : Connective) (a b : FormulaTree) → fits (joined c a b) ≡ true → fits b ≡ true
+fits_right_side c a b h = fits_smaller b (joined c a b) (omega arith) (omega arith) h
+
+pub fits_body : (q : Quantifier) (s : Sort) (a : FormulaTree) → fits (quantified q s a) ≡ true → fits a ≡ true
+fits_body q s a h = fits_smaller a (quantified q s a) (omega arith) (omega arith) h
+
+-- the sides of an implication
 pub fits_left : (a b : FormulaTree) → fits (joined implies a b) ≡ true → fits a ≡ true
-unfolding fits
-fits_left a b h =
-    let parts = and_parts (nat_le (size (joined implies a b)) 16384) (nat_le (depth (joined implies a b)) 256) h in
-    let few : 1 + size a + size b ≤ 16384 = leb-true _ _ parts.0 in
-    let low : 1 + max (depth a) (depth b) ≤ 256 = leb-true _ _ parts.1 in
-    let few_left : size a ≤ 16384 = omega arith in
-    let low_left : depth a ≤ 256 = omega arith in
-    and_from _ _ (le-leb _ _ few_left) (le-leb _ _ low_left)
+fits_left a b h = fits_left_side implies a b h
 
--- the right part of a formula that fits, fits
 pub fits_right : (a b : FormulaTree) → fits (joined implies a b) ≡ true → fits b ≡ true
-unfolding fits
-fits_right a b h =
-    let parts = and_parts (nat_le (size (joined implies a b)) 16384) (nat_le (depth (joined implies a b)) 256) h in
-    let few : 1 + size a + size b ≤ 16384 = leb-true _ _ parts.0 in
-    let low : 1 + max (depth a) (depth b) ≤ 256 = leb-true _ _ parts.1 in
-    let few_right : size b ≤ 16384 = omega arith in
-    let low_right : depth b ≤ 256 = omega arith in
-    and_from _ _ (le-leb _ _ few_right) (le-leb _ _ low_right)
-
-right_if : (t : Bool) (a b c d : FormulaTree) → same_formula a c ≡ t → ◌≡◌ {A = Option FormulaTree} (if t then Some b else None) (Some d) → joined implies a b ≡ joined implies c d
-right_if true a b c d same e =
-    let right : b ≡ d = cc in
-    cc (formula_is a c same, right)
-right_if false a b c d same e = absurd (cc)
-
--- a formula that has a right side is an implication
-pub right_is : (f c d : FormulaTree) → right_of f c ≡ Some d → f ≡ joined implies c d
-right_is (joined implies a b) c d e = right_if (same_formula a c) a b c d refl e
-right_is f c d e = absurd (cc)
-
--- what the walk counts of a right side by subtraction
-pub sizes_of : (f c d : FormulaTree) → right_of f c ≡ Some d → size f ≡ 1 + size c + size d
-sizes_of f c d e = rw (right_is f c d e) refl
-
-pub fits_right_of : (f c d : FormulaTree) → right_of f c ≡ Some d → fits f ≡ true → fits d ≡ true
-fits_right_of f c d e h = fits_right c d (subst (λ x. fits x ≡ true) (right_is f c d e) h)
+fits_right a b h = fits_right_side implies a b h

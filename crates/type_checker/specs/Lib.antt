@@ -1,8 +1,9 @@
 pub mod Typing
 pub mod Laws
-pub mod Built
 pub mod Place
-pub mod Scope
-pub mod Found
 pub mod Same
+pub mod Rules
 pub mod Walk
+pub mod Found
+pub mod Gives
+pub mod Scope

@@ -1,9 +1,10 @@
 -- Where the fault of a proof is that has no formula: the first of its subproofs that has none.
-use Rattle.std.specs.Prelude.{ℕ, zero, suc, ◌+◌, Bool, ◌&&◌, if◌then◌else◌, List, [], ◌∷◌, ◌++◌, Option, Some, None}
+use Rattle.std.specs.Prelude.{◌≡◌, ◌⊎◌, ℕ, suc, ◌+◌, ◌<◌, Bool, true, ◌&&◌, List, [], ◌∷◌}
 use Rattle.ck_base.specs.declared.decl.Sort.{Sort}
 use Rattle.ck_base.specs.declared.decl.Decl.{Decl}
-use Rattle.formulas.specs.Tree.{FormulaTree}
+use Rattle.formulas.specs.Tree.{FormulaTree, joined, or_else, quantified, there_is}
 use Rattle.formulas.specs.Sorts.{well_sorted, fits}
+use Rattle.formulas.specs.Context.{raised}
 use Rattle.proof_terms.specs.Tree.{ProofTree, hypothesis, lambda, application, general, special, pair, first, second, left_of, right_of, by_cases, pack, unpack, from_bottom, stable, reflexive, rewriting, an_axiom, induction, computing, ring_equal, hole}
 use Rattle.type_checker.specs.declared.untyped.Untyped.{Untyped}
 use Rattle.type_checker.specs.declared.untyped.Untyped.TheVariants.{At, NoMemory}
@@ -44,40 +45,73 @@ pub record Subproof : Type 0 where
 abbrev pub is_assumable : List Decl → List Sort → FormulaTree → Bool
 is_assumable names variables a = fits a && well_sorted names variables a
 
-abbrev pub determined : List Sort → List FormulaTree → ProofTree → Option Subproof
-determined variables hypotheses p = Some (record { variables = variables; hypotheses = hypotheses; proof = p })
+-- all of them may be
+abbrev pub AreAssumable : List Decl → List Sort → List FormulaTree → Type 0
+AreAssumable names variables [] = Unit {0}
+AreAssumable names variables (a ∷ hypotheses) = (is_assumable names variables a ≡ true) × AreAssumable names variables hypotheses
 
--- as many subproofs, each under hypotheses that are not determined
-abbrev pub undetermined : ℕ → List (Option Subproof)
-undetermined zero = []
-undetermined (suc n) = None ∷ undetermined n
+-- the proof itself is the last of its subproofs
+abbrev pub IsWhole : List Sort → List FormulaTree → ProofTree → ℕ → Subproof → Type 0
+IsWhole variables hypotheses p k s = (suc k ≡ proof_nodes p) × (s ≡ record { variables = variables; hypotheses = hypotheses; proof = p })
 
--- The subproofs in post-order, numbered from 0, the proof itself the last. Each has what it stands under,
--- and none where that is not determined, as under a formula that may be no hypothesis.
-abbrev pub subproofs : List Decl → List Sort → List FormulaTree → ProofTree → List (Option Subproof)
-subproofs names variables hypotheses (lambda a p) =
-    (if is_assumable names variables a then subproofs names variables (a ∷ hypotheses) p else undetermined (proof_nodes p)) ++ determined variables hypotheses (lambda a p) ∷ []
--- each part of an application stands under what the whole does
-subproofs names variables hypotheses (application p q) =
-    subproofs names variables hypotheses p ++ (subproofs names variables hypotheses q ++ determined variables hypotheses (application p q) ∷ [])
--- a hypothesis has no other; the other rules are not built yet
-subproofs names variables hypotheses p = determined variables hypotheses p ∷ []
+-- a subproof of a part that stands after so many proof nodes
+abbrev pub After : ℕ → (ℕ → Subproof → Type 0) → ℕ → Subproof → Type 0
+After count Part k s = (j : ℕ) × (k ≡ count + j) × Part j s
 
--- a subproof with determined hypotheses has no formula
-abbrev pub IsUntyped : List Decl → Option Subproof → Type 0
-IsUntyped names None = ⊥
-IsUntyped names (Some s) = (a : FormulaTree) → Has names s.variables s.hypotheses s.proof a → ⊥
+-- The subproof with number k in post-order, counted from 0, with what it stands under. A part under a
+-- hypothesis that is not determined has no subproof: under a formula that may be no hypothesis, and under
+-- the parts of a disjunction or of an existential formula where the part before has none.
+abbrev pub IsSubproof : List Decl → List Sort → List FormulaTree → ProofTree → ℕ → Subproof → Type 0
+IsSubproof names variables hypotheses (lambda a p) k s =
+    ((is_assumable names variables a ≡ true) × IsSubproof names variables (a ∷ hypotheses) p k s) ⊎ IsWhole variables hypotheses (lambda a p) k s
+IsSubproof names variables hypotheses (application p q) k s =
+    IsSubproof names variables hypotheses p k s ⊎ After (proof_nodes p) (IsSubproof names variables hypotheses q) k s ⊎ IsWhole variables hypotheses (application p q) k s
+IsSubproof names variables hypotheses (general r p) k s =
+    IsSubproof names (r ∷ variables) (raised hypotheses) p k s ⊎ IsWhole variables hypotheses (general r p) k s
+IsSubproof names variables hypotheses (special p t) k s =
+    IsSubproof names variables hypotheses p k s ⊎ IsWhole variables hypotheses (special p t) k s
+IsSubproof names variables hypotheses (pair p q) k s =
+    IsSubproof names variables hypotheses p k s ⊎ After (proof_nodes p) (IsSubproof names variables hypotheses q) k s ⊎ IsWhole variables hypotheses (pair p q) k s
+IsSubproof names variables hypotheses (first p) k s =
+    IsSubproof names variables hypotheses p k s ⊎ IsWhole variables hypotheses (first p) k s
+IsSubproof names variables hypotheses (second p) k s =
+    IsSubproof names variables hypotheses p k s ⊎ IsWhole variables hypotheses (second p) k s
+IsSubproof names variables hypotheses (left_of b p) k s =
+    IsSubproof names variables hypotheses p k s ⊎ IsWhole variables hypotheses (left_of b p) k s
+IsSubproof names variables hypotheses (right_of a p) k s =
+    IsSubproof names variables hypotheses p k s ⊎ IsWhole variables hypotheses (right_of a p) k s
+-- each case stands under its side of the disjunction
+IsSubproof names variables hypotheses (by_cases p q r) k s =
+    IsSubproof names variables hypotheses p k s
+    ⊎ ((a : FormulaTree) × (b : FormulaTree) × Has names variables hypotheses p (joined or_else a b)
+    × (After (proof_nodes p) (IsSubproof names variables (a ∷ hypotheses) q) k s
+    ⊎ After (proof_nodes p + proof_nodes q) (IsSubproof names variables (b ∷ hypotheses) r) k s))
+    ⊎ IsWhole variables hypotheses (by_cases p q r) k s
+IsSubproof names variables hypotheses (pack r a t p) k s =
+    IsSubproof names variables hypotheses p k s ⊎ IsWhole variables hypotheses (pack r a t p) k s
+-- the right part stands under a new variable and what holds of it
+IsSubproof names variables hypotheses (unpack p q) k s =
+    IsSubproof names variables hypotheses p k s
+    ⊎ ((r : Sort) × (a : FormulaTree) × Has names variables hypotheses p (quantified there_is r a)
+    × After (proof_nodes p) (IsSubproof names (r ∷ variables) (a ∷ raised hypotheses) q) k s)
+    ⊎ IsWhole variables hypotheses (unpack p q) k s
+IsSubproof names variables hypotheses (from_bottom a p) k s =
+    IsSubproof names variables hypotheses p k s ⊎ IsWhole variables hypotheses (from_bottom a p) k s
+IsSubproof names variables hypotheses (stable p) k s =
+    IsSubproof names variables hypotheses p k s ⊎ IsWhole variables hypotheses (stable p) k s
+IsSubproof names variables hypotheses (rewriting a p q) k s =
+    IsSubproof names variables hypotheses p k s ⊎ After (proof_nodes p) (IsSubproof names variables hypotheses q) k s ⊎ IsWhole variables hypotheses (rewriting a p q) k s
+-- the other rules have no parts
+IsSubproof names variables hypotheses p k s = IsWhole variables hypotheses p k s
 
--- a subproof has a formula, or no determined hypotheses
-abbrev pub IsPassed : List Decl → Option Subproof → Type 0
-IsPassed names None = Unit {0}
-IsPassed names (Some s) = (a : FormulaTree) × Has names s.variables s.hypotheses s.proof a
+abbrev pub IsTyped : List Decl → Subproof → Type 0
+IsTyped names s = (a : FormulaTree) × Has names s.variables s.hypotheses s.proof a
 
--- the number of the first one with determined hypotheses that has no formula
-abbrev pub IsFirstUntyped : List Decl → List (Option Subproof) → ℕ → Type 0
-IsFirstUntyped names [] place = ⊥
-IsFirstUntyped names (s ∷ rest) zero = IsUntyped names s
-IsFirstUntyped names (s ∷ rest) (suc place) = IsPassed names s × IsFirstUntyped names rest place
+-- The number is that of a subproof without a formula, and every subproof before it has one.
+abbrev pub IsFirstUntyped : List Decl → List Sort → List FormulaTree → ProofTree → ℕ → Type 0
+IsFirstUntyped names variables hypotheses p place =
+    ((s : Subproof) × IsSubproof names variables hypotheses p place s × (IsTyped names s → ⊥))
+    × ((k : ℕ) → k < place → (s : Subproof) → IsSubproof names variables hypotheses p k s → IsTyped names s)
 
 -- what holds of the place, where the answer names one
 abbrev pub IfAt : Untyped → (ℕ → Type 0) → Type 0

@@ -1,22 +1,27 @@
 -- The hypotheses that a scope of the code means.
-use Rattle.std.specs.Prelude.{◌≡◌, true, if◌then◌else◌, List, ◌∷◌, Option, Some, None}
+use Rattle.std.specs.Prelude.{ℕ, suc, List, ◌∷◌}
 use Rattle.formulas.specs.Tree.{FormulaTree, formula_tree}
-use Rattle.formulas.specs.Sorts.{size, depth, fits}
-use Rattle.formulas.specs.Context.{hypotheses_of}
+use Rattle.formulas.specs.Substitution.{shift}
+use Rattle.formulas.specs.Context.{hypotheses_of, raised}
+use Rattle.type_checker.specs.Found.{found_tree}
 use Rattle.type_checker.specs.declared.scope.Scope.{Scope}
-use Rattle.type_checker.specs.declared.scope.Scope.TheVariants.{Outer, Under'}
+use Rattle.type_checker.specs.declared.scope.Scope.TheVariants.{Outer, Under', Over'}
+use Rattle.type_checker.specs.declared.scope.Assumed.{Assumed}
+use Rattle.type_checker.specs.declared.scope.Assumed.TheVariants as assumed
 
 -- the newest first
 abbrev pub hypotheses_under : Scope → List FormulaTree
 hypotheses_under (Outer context) = hypotheses_of context.now
-hypotheses_under (Under' a size depth p rest) = formula_tree a.now ∷ hypotheses_under rest
+hypotheses_under (Under' a p rest) = found_tree a.now ∷ hypotheses_under rest
+hypotheses_under (Over' p rest) = raised (hypotheses_under rest)
 
--- the sizes and depths that go with the formulas of lambdas are their own, and these fit
-abbrev pub AreMeasured : Scope → Type 0
-AreMeasured (Outer context) = Unit {0}
-AreMeasured (Under' a s d p rest) = (s ≡ size (formula_tree a.now)) × (d ≡ depth (formula_tree a.now)) × (fits (formula_tree a.now) ≡ true) × AreMeasured rest
+-- the number of variables that are bound since the context
+abbrev pub variables_over : Scope → ℕ
+variables_over (Outer context) = 0
+variables_over (Under' a p rest) = variables_over rest
+variables_over (Over' p rest) = suc (variables_over rest)
 
--- a formula where it fits
-abbrev pub fitting : Option FormulaTree → Option FormulaTree
-fitting None = None
-fitting (Some a) = if fits a then Some a else None
+-- a formula as it stood when it was assumed
+abbrev pub assumed_tree : Assumed → FormulaTree
+assumed_tree (assumed.Given a) = formula_tree a.now
+assumed_tree (assumed.Found a) = found_tree a.now

@@ -1,64 +1,79 @@
--- What the walk of `type_of` computes on plain trees, with the number of the next proof node.
-use Rattle.std.specs.Prelude.{◌≡◌, ℕ, ◌+◌, if◌then◌else◌, List, ◌∷◌, Option, Some, None, slice_get, Result, Ok, Err}
+-- The rules along a proof: the formula of each node, or the number of the first node in post-order that has
+-- none.
+use Rattle.std.specs.Prelude.{ℕ, ◌+◌, if◌then◌else◌, List, ◌∷◌, Option, Some, None, Result, Ok, Err}
 use Rattle.ck_base.specs.declared.decl.Sort.{Sort}
 use Rattle.ck_base.specs.declared.decl.Decl.{Decl}
-use Rattle.formulas.specs.Tree.{FormulaTree, joined, implies}
-use Rattle.formulas.specs.Sorts.{fits}
-use Rattle.proof_terms.specs.Tree.{ProofTree, hypothesis, lambda, application}
-use Rattle.type_checker.specs.declared.untyped.Untyped.{Untyped}
-use Rattle.type_checker.specs.declared.untyped.Untyped.TheVariants.{At, NoMemory}
-use Rattle.type_checker.specs.declared.typed.Typed.{Typed}
-use Rattle.type_checker.specs.Found.{found_tree}
-use Rattle.type_checker.specs.Same.{same_formula}
+use Rattle.formulas.specs.Tree.{FormulaTree, joined, implies, or_else, quantified, for_all, there_is}
+use Rattle.formulas.specs.Context.{raised}
+use Rattle.proof_terms.specs.Tree.{ProofTree, lambda, application, general, special, pair, first, second, left_of, right_of, by_cases, pack, unpack, from_bottom, stable, rewriting}
 use Rattle.type_checker.specs.Place.{proof_nodes, is_assumable}
+use Rattle.type_checker.specs.Rules.{fitting, of_leaf, of_one, of_two, of_cases, of_unpacked}
 
 -- A formula and the number of the next node, or the place of the fault.
 abbrev pub Walk : Type 0
 Walk = Result (FormulaTree × ℕ) ℕ
 
--- the formula of node `n`, where it fits
-abbrev pub found : FormulaTree → ℕ → Walk
-found a n = if fits a then Ok (a, n + 1) else Err n
-
+-- the formula of node `n`
 abbrev pub found_at : Option FormulaTree → ℕ → Walk
 found_at None n = Err n
-found_at (Some a) n = found a n
+found_at (Some a) n = Ok (a, n + 1)
 
-abbrev pub found_under : FormulaTree → Walk → Walk
-found_under a (Ok r) = found (joined implies a r.0) r.1
-found_under a (Err place) = Err place
+-- the formula of node `n`, where it fits
+abbrev pub found : Option FormulaTree → ℕ → Walk
+found a n = found_at (fitting a) n
 
--- the right side of an implication that has that left side
-abbrev pub right_of : FormulaTree → FormulaTree → Option FormulaTree
-right_of (joined implies a b) c = if same_formula a c then Some b else None
-right_of f c = None
+-- a walk, and then the one that its formula and the next number tell
+abbrev pub continued : Walk → (FormulaTree → ℕ → Walk) → Walk
+continued (Ok r) next = next r.0 r.1
+continued (Err place) next = Err place
 
--- the right side of node `n`; it fits where the implication does
-abbrev pub found_right : Option FormulaTree → ℕ → Walk
-found_right None n = Err n
-found_right (Some b) n = Ok (b, n + 1)
+-- the sides of a disjunction, the sort and body of an existential formula; else the fault is at the place
+abbrev pub with_sides : FormulaTree → ℕ → (FormulaTree → FormulaTree → Walk) → Walk
+with_sides (joined or_else a b) place next = next a b
+with_sides f place next = Err place
 
-abbrev pub found_applied : FormulaTree → Walk → Walk
-found_applied f (Ok r) = found_right (right_of f r.0) r.1
-found_applied f (Err place) = Err place
-
--- the walks of the left part and of the right part, the left one's fault first
-abbrev pub found_both : Walk → Walk → Walk
-found_both (Ok r) right = found_applied r.0 right
-found_both (Err place) right = Err place
+abbrev pub with_body : FormulaTree → ℕ → (Sort → FormulaTree → Walk) → Walk
+with_body (quantified there_is s a) place next = next s a
+with_body f place next = Err place
 
 -- the walk of a proof whose first node has number `n`
 abbrev pub walked : List Decl → List Sort → List FormulaTree → ProofTree → ℕ → Walk
-walked names variables hypotheses (hypothesis k) n = found_at (slice_get hypotheses k) n
 walked names variables hypotheses (lambda a p) n =
-    if is_assumable names variables a then found_under a (walked names variables (a ∷ hypotheses) p n) else Err (n + proof_nodes p)
+    if is_assumable names variables a
+    then continued (walked names variables (a ∷ hypotheses) p n) (λ b m. found (Some (joined implies a b)) m)
+    else Err (n + proof_nodes p)
+walked names variables hypotheses (general s p) n =
+    continued (walked names (s ∷ variables) (raised hypotheses) p n) (λ a m. found (Some (quantified for_all s a)) m)
+walked names variables hypotheses (by_cases p q r) n =
+    continued (walked names variables hypotheses p n) (λ f m. with_sides f (m + proof_nodes q + proof_nodes r) (λ a b.
+    continued (walked names variables (a ∷ hypotheses) q m) (λ c k.
+    continued (walked names variables (b ∷ hypotheses) r k) (λ d l. found (of_cases c d) l))))
+walked names variables hypotheses (unpack p q) n =
+    continued (walked names variables hypotheses p n) (λ f m. with_body f (m + proof_nodes q) (λ s a.
+    continued (walked names (s ∷ variables) (a ∷ raised hypotheses) q m) (λ c k. found (of_unpacked c) k)))
+-- two parts that stand under what the whole does
 walked names variables hypotheses (application p q) n =
-    found_both (walked names variables hypotheses p n) (walked names variables hypotheses q (n + proof_nodes p))
--- the other rules are not built yet
-walked names variables hypotheses p n = Err n
-
--- the code's answer is the walk's, but for want of memory
-abbrev pub Gives : Result (Typed × ℕ) Untyped → Walk → Type 0
-Gives (Ok r) walk = walk ≡ Ok (found_tree r.0.found, r.1)
-Gives (Err (At place)) walk = walk ≡ Err place
-Gives (Err NoMemory) walk = Unit {0}
+    continued (walked names variables hypotheses p n) (λ f m. continued (walked names variables hypotheses q m) (λ g k. found (of_two names variables (application p q) f g) k))
+walked names variables hypotheses (pair p q) n =
+    continued (walked names variables hypotheses p n) (λ f m. continued (walked names variables hypotheses q m) (λ g k. found (of_two names variables (pair p q) f g) k))
+walked names variables hypotheses (rewriting a p q) n =
+    continued (walked names variables hypotheses p n) (λ f m. continued (walked names variables hypotheses q m) (λ g k. found (of_two names variables (rewriting a p q) f g) k))
+-- one part that stands under what the whole does
+walked names variables hypotheses (special p t) n =
+    continued (walked names variables hypotheses p n) (λ f m. found (of_one names variables (special p t) f) m)
+walked names variables hypotheses (first p) n =
+    continued (walked names variables hypotheses p n) (λ f m. found (of_one names variables (first p) f) m)
+walked names variables hypotheses (second p) n =
+    continued (walked names variables hypotheses p n) (λ f m. found (of_one names variables (second p) f) m)
+walked names variables hypotheses (left_of b p) n =
+    continued (walked names variables hypotheses p n) (λ f m. found (of_one names variables (left_of b p) f) m)
+walked names variables hypotheses (right_of a p) n =
+    continued (walked names variables hypotheses p n) (λ f m. found (of_one names variables (right_of a p) f) m)
+walked names variables hypotheses (pack s a t p) n =
+    continued (walked names variables hypotheses p n) (λ f m. found (of_one names variables (pack s a t p) f) m)
+walked names variables hypotheses (from_bottom a p) n =
+    continued (walked names variables hypotheses p n) (λ f m. found (of_one names variables (from_bottom a p) f) m)
+walked names variables hypotheses (stable p) n =
+    continued (walked names variables hypotheses p n) (λ f m. found (of_one names variables (stable p) f) m)
+-- no parts
+walked names variables hypotheses p n = found (of_leaf names variables hypotheses p) n

@@ -1,11 +1,19 @@
 //! The typing rules: which formula a proof term has in a context.
 //!
-//! It stands on `proof_terms`. Its definition is the typing relation (`specs/Typing.antt`); that it is
-//! sound is the law of `laws`. The place of a fault is defined in `specs/Place.antt`.
+//! It stands on `proof_terms` and `arith_axioms`. Its definition is the typing relation (`specs/Typing.antt`),
+//! and the place of a fault is defined in `specs/Place.antt`. The rules computed (`specs/Rules.antt`,
+//! `specs/Walk.antt`) are what the code follows; that they tell the same, and that typing is sound, are laws
+//! (`laws`).
 #![tactic(auto)]
 
+mod fitting;
+mod heads;
+mod instances;
 pub mod laws;
+mod leaves;
+mod making;
 mod nodes;
+mod rules;
 mod scope;
 mod typed;
 pub mod typing;

@@ -1,57 +1,74 @@
 //! The hypotheses that a subproof stands under, without a copy of them.
 
-ghost use Rattle.std.specs.Prelude.{◌≡◌, IfSome, Some, slice_get};
+ghost use Rattle.std.specs.Prelude.{◌≡◌, ◌<◌, ◌≤◌, ◌^◌, IfOk, IfSome, slice_get};
 ghost use Rattle.std.specs.Option.{option_map};
 ghost use Rattle.formulas.specs.Tree.{formula_tree};
-ghost use Rattle.formulas.specs.Context.{hypotheses_of};
-ghost use Rattle.type_checker.specs.Found.{found_tree, IsMeasured};
-ghost use Rattle.type_checker.specs.Scope.{AreMeasured, fitting, hypotheses_under};
+ghost use Rattle.formulas.specs.Substitution.{HasIndicesBelow, shift as shifted};
+ghost use Rattle.formulas.specs.Context.{AllIndicesBelow, hypotheses_of};
+ghost use Rattle.type_checker.specs.Found.{found_tree};
+ghost use Rattle.type_checker.specs.Scope.{assumed_tree, hypotheses_under, variables_over};
 
-use crate::typed::{Found, Typed};
-use formulas::{Context, Formula, depth, fits, size};
+use crate::typed::{Found, copied};
+use ck_base::NoMemory;
+use formulas::{Context, Formula, shift};
+use std::alloc::Global;
 
-/// The hypotheses of a context, and on them those of the lambdas around, each with its size and depth.
+/// The hypotheses of a context, and on them those that rules add. `Under` is one more hypothesis; `Over`
+/// is one more variable, which raises every hypothesis below it by one.
 #[derive(Clone, Copy)]
 pub enum Scope<'f, 's> {
     Outer(&'f Context),
-    Under(&'f Formula, u32, u32, &'s Scope<'f, 's>),
+    Under(&'s Found<'f>, &'s Scope<'f, 's>),
+    Over(&'s Scope<'f, 's>),
 }
 
-/// The hypothesis of that index, 0 the newest, where it fits. That of a lambda is not counted again.
-pub fn hypothesis<'f>(scope: &Scope<'f, '_>, index: u32) -> Option<Typed<'f>>
-    requires { AreMeasured scope.now }
-    ensures found { option_map (λ t. found_tree t.found) result ≡ fitting (slice_get (hypotheses_under scope.now) index) }
-    ensures measured { IfSome result (λ t. IsMeasured t) }
+/// A hypothesis as it stood when it was assumed: one of the context, or a found formula.
+#[derive(Clone, Copy)]
+pub enum Assumed<'f, 's> {
+    Given(&'f Formula),
+    Found(&'s Found<'f>),
+}
+
+/// The hypothesis of that index, 0 the newest; `None` exactly where there is none. No index of a hypothesis
+/// may pass 2^32 - 1. `NoMemory` where memory was refused: a hypothesis that was not built by a rule and
+/// over which no variable stands takes none.
+#[tactic(auto, using(crate::proofs::Raising::held_below))]
+pub fn hypothesis<'f>(
+    alloc: Global,
+    scope: &Scope<'f, '_>,
+    index: u32,
+) -> Result<Option<Found<'f>>, NoMemory>
+    requires room { AllIndicesBelow (2 ^ 32) (hypotheses_under scope.now) }
+    requires few { variables_over scope.now < 2 ^ 32 }
+    ensures { IfOk result (λ o. option_map found_tree o ≡ slice_get (hypotheses_under scope.now) index) }
+{
+    let Some((assumed, passed)) = held(scope, index) else {
+        return Ok(None);
+    };
+    Ok(Some(raised(alloc, assumed, passed)?))
+}
+
+// The hypothesis of that index as it stood, and how many variables were bound since.
+#[tactic(auto, using(crate::proofs::Raising::get_raised, crate::proofs::Raising::shift_none, crate::proofs::Lowering::shifted_again))]
+fn held<'f, 's>(scope: &Scope<'f, 's>, index: u32) -> Option<(Assumed<'f, 's>, u32)>
+    requires { variables_over scope.now < 2 ^ 32 }
+    ensures found { option_map (λ r. shifted (assumed_tree r.0) r.1 0) result ≡ slice_get (hypotheses_under scope.now) index }
+    ensures few { IfSome result (λ r. r.1 ≤ variables_over scope.now) }
 {
     match scope {
-        Scope::Outer(context) => counted(newest(context, index)?),
-        Scope::Under(a, size, depth, rest) => {
-            if index == 0 {
-                Some(Typed {
-                    found: Found::Known(a),
-                    size: *size,
-                    depth: Some(*depth),
-                })
-            } else {
-                hypothesis(rest, index - 1)
-            }
+        Scope::Outer(context) => {
+            let a = newest(context, index)?;
+            Some((Assumed::Given(a), 0))
+        }
+        Scope::Under(a, rest) => match index.checked_sub(1) {
+            None => Some((Assumed::Found(a), 0)),
+            Some(index) => held(rest, index),
+        },
+        Scope::Over(rest) => {
+            let (assumed, passed) = held(rest, index)?;
+            Some((assumed, passed + 1))
         }
     }
-}
-
-#[tactic(auto, unfolding(formulas::specs::Sorts::fits))]
-fn counted<'f>(a: &'f Formula) -> Option<Typed<'f>>
-    ensures found { option_map (λ t. found_tree t.found) result ≡ fitting (Some (formula_tree a.now)) }
-    ensures measured { IfSome result (λ t. IsMeasured t) }
-{
-    if !fits(a) {
-        return None;
-    }
-    Some(Typed {
-        found: Found::Known(a),
-        size: size(a),
-        depth: Some(depth(a)),
-    })
 }
 
 fn newest<'a>(context: &'a Context, index: u32) -> Option<&'a Formula>
@@ -64,4 +81,34 @@ fn newest<'a>(context: &'a Context, index: u32) -> Option<&'a Formula>
     } else {
         None
     }
+}
+
+// The hypothesis under `by` more variables.
+#[tactic(auto, using(crate::proofs::Raising::shift_none))]
+fn raised<'f>(alloc: Global, assumed: Assumed<'f, '_>, by: u32) -> Result<Found<'f>, NoMemory>
+    requires { HasIndicesBelow (2 ^ 32) (shifted (assumed_tree assumed) by 0) }
+    ensures { IfOk result (λ r. found_tree r ≡ shifted (assumed_tree assumed.entry) by 0) }
+{
+    match assumed {
+        Assumed::Given(a) => raised_known(alloc, a, by),
+        Assumed::Found(Found::Known(a)) => raised_known(alloc, a, by),
+        Assumed::Found(a) => {
+            let a = copied(alloc, a)?;
+            if by == 0 {
+                return Ok(Found::Built(a));
+            }
+            Ok(Found::Built(shift(alloc, &a, by, 0)?))
+        }
+    }
+}
+
+#[tactic(auto, using(crate::proofs::Raising::shift_none))]
+fn raised_known<'f>(alloc: Global, a: &'f Formula, by: u32) -> Result<Found<'f>, NoMemory>
+    requires { HasIndicesBelow (2 ^ 32) (shifted (formula_tree a.now) by 0) }
+    ensures { IfOk result (λ r. found_tree r ≡ shifted (formula_tree a.now) by 0) }
+{
+    if by == 0 {
+        return Ok(Found::Known(a));
+    }
+    Ok(Found::Built(shift(alloc, a, by, 0)?))
 }

@@ -1,29 +1,37 @@
 //! The walk over a proof. It gives each subproof its formula, or finds the first that has none.
 
-ghost use Rattle.std.specs.Prelude.{◌≡◌, ◌+◌, ◌<◌, ◌^◌, true, IfOk, slice_get};
+ghost use Rattle.std.specs.Prelude.{◌≡◌, ℕ, ◌+◌, ◌<◌, ◌≤◌, ◌^◌, true, length, Some, Err, IfOk, IfSome, IfNone};
 ghost use Rattle.std.specs.Option.{option_map};
+ghost use Rattle.ck_base.specs.declared.decl.Sort.{Sort as SortTree};
 ghost use Rattle.sorted_terms.specs.Variables.{sorts_in};
-ghost use Rattle.formulas.specs.Tree.{formula_tree, joined, implies};
-ghost use Rattle.formulas.specs.Sorts as sorts;
+ghost use Rattle.formulas.specs.Tree.{FormulaTree, formula_tree, joined, implies, or_else, quantified, for_all, there_is};
+ghost use Rattle.formulas.specs.Sorts.{fits as fits_tree};
 ghost use Rattle.proof_terms.specs.Tree.{proof_tree};
-ghost use Rattle.type_checker.specs.Built.{IsBuilt};
-ghost use Rattle.type_checker.specs.Found.{found_tree, IsMeasured};
+ghost use Rattle.type_checker.specs.Found.{found_tree};
+ghost use Rattle.type_checker.specs.Gives.{Gives};
 ghost use Rattle.type_checker.specs.Place as place;
-ghost use Rattle.type_checker.specs.Scope.{AreMeasured, hypotheses_under};
-ghost use Rattle.type_checker.specs.Walk.{Gives, found, found_at, found_right, right_of, walked};
+ghost use Rattle.type_checker.specs.Rules as rules;
+ghost use Rattle.type_checker.specs.Scope.{hypotheses_under, variables_over};
+ghost use Rattle.type_checker.specs.Walk.{Walk, found, found_at, walked, with_body, with_sides};
 
+use crate::fitting::fitted;
+use crate::heads::{Head, opened};
+use crate::leaves::of_leaf;
+use crate::making::{implication, universal};
 use crate::nodes::nodes;
-use crate::scope::{Scope, hypothesis};
-use crate::typed::{Found, Typed, levels, matches};
+use crate::rules::{of_cases, of_one, of_two, of_unpacked};
+use crate::scope::Scope;
+use crate::typed::Found;
 use crate::untyped::Untyped;
-use ck_base::limits::{FORMULA_DEPTH, FORMULA_NODES};
-use ck_base::{Decls, NoMemory};
-use formulas::{Formula, depth, fits, size, well_sorted_under};
+use ck_base::{Decls, Sort};
+use formulas::{Formula, fits, well_sorted_under};
 use proof_terms::Proof;
 use sorted_terms::Variables;
 use std::alloc::Global;
 
-/// The formula of a proof whose first node has number `n`, and the number of the node after its last.
+/// The formula of a proof whose first node has number `n`, and the number of the node after its last. Where
+/// it has none, the number of the first of its subproofs that has none.
+#[tactic(auto, using(crate::proofs::Exact::walked_assumable, crate::proofs::Sorted::raised_assumable, crate::proofs::Sorted::assumable_fits))]
 pub fn walk<'f>(
     alloc: Global,
     decls: &Decls,
@@ -31,35 +39,82 @@ pub fn walk<'f>(
     scope: &Scope<'f, '_>,
     p: &'f Proof,
     n: u32,
-) -> Result<(Typed<'f>, u32), Untyped>
-    requires built { IsBuilt (proof_tree p.now) }
-    requires scope { AreMeasured scope.now }
+) -> Result<(Found<'f>, u32), Untyped>
+    requires assumed { place.AreAssumable decls.now (sorts_in variables.now) (hypotheses_under scope.now) }
+    requires over { variables_over scope.now ≤ length (sorts_in variables.now) }
+    requires few { length (sorts_in variables.now) + place.proof_nodes (proof_tree p.now) < 2 ^ 31 + 2 ^ 30 }
     requires numbers { n + place.proof_nodes (proof_tree p.now) < 2 ^ 32 }
 
     ensures gives { Gives result (walked decls.now (sorts_in variables.now) (hypotheses_under scope.now) (proof_tree p.now) n) }
     ensures next { IfOk result (λ r. r.1 ≡ n + place.proof_nodes (proof_tree p.now)) }
-    ensures measured { IfOk result (λ r. IsMeasured r.0) }
 {
     match p {
-        Proof::Hyp(index) => used(scope, *index, n),
+        Proof::Hyp(_)
+        | Proof::Refl(_)
+        | Proof::Axiom(_)
+        | Proof::Induct(_)
+        | Proof::Compute(_)
+        | Proof::Ring(_, _)
+        | Proof::Hole(_) => leaf(alloc, decls, variables, scope, p, n),
+        Proof::Inst(part, _)
+        | Proof::First(part)
+        | Proof::Second(part)
+        | Proof::LeftOf(_, part)
+        | Proof::RightOf(_, part)
+        | Proof::Pack(_, _, _, part)
+        | Proof::Absurd(_, part)
+        | Proof::Stable(part) => {
+            let (f, n) = walk(alloc, decls, variables, scope, part, n)?;
+            one(alloc, decls, variables, p, f, n)
+        }
+        Proof::App(left, right) | Proof::Pair(left, right) | Proof::Rewrite(_, left, right) => {
+            let (f, n) = walk(alloc, decls, variables, scope, left, n)?;
+            let (g, n) = walk(alloc, decls, variables, scope, right, n)?;
+            two(alloc, decls, variables, p, f, g, n)
+        }
         Proof::Lam(a, part) => {
-            if is_assumable(decls, variables, a) {
-                let (size, depth) = measured(a);
-                let scope = Scope::Under(a, size, depth, &*scope);
-                let (b, n) = walk(alloc, decls, variables, &scope, part, n)?;
-                implication(alloc, a, size, depth, b, n)
-            } else {
-                Err(Untyped::At {
+            if !is_assumable(decls, variables, a) {
+                return Err(Untyped::At {
                     place: n + nodes(part),
-                })
+                });
             }
+            let assumed = Found::Known(a);
+            let scope = Scope::Under(&assumed, &*scope);
+            let (b, n) = walk(alloc, decls, variables, &scope, part, n)?;
+            lambda(alloc, a, b, n)
         }
-        Proof::App(p, q) => {
-            let (f, n) = walk(alloc, decls, variables, scope, p, n)?;
-            let (a, n) = walk(alloc, decls, variables, scope, q, n)?;
-            applied(f, a, n)
+        Proof::Gen(sort, part) => {
+            let variables = Variables::Under(*sort, &*variables);
+            let scope = Scope::Over(&*scope);
+            let (a, n) = walk(alloc, decls, &variables, &scope, part, n)?;
+            general(alloc, *sort, a, n)
         }
-        _ => unreachable!(),
+        Proof::Cases(part, left, right) => {
+            let (f, n) = walk(alloc, decls, variables, scope, part, n)?;
+            let Some((a, b)) = sides(f) else {
+                return Err(Untyped::At {
+                    place: n + nodes(left) + nodes(right),
+                });
+            };
+            let under = Scope::Under(&a, &*scope);
+            let (c, n) = walk(alloc, decls, variables, &under, left, n)?;
+            let under = Scope::Under(&b, &*scope);
+            let (d, n) = walk(alloc, decls, variables, &under, right, n)?;
+            cases(c, &d, n)
+        }
+        Proof::Unpack(part, rest) => {
+            let (f, n) = walk(alloc, decls, variables, scope, part, n)?;
+            let Some((sort, a)) = body(f) else {
+                return Err(Untyped::At {
+                    place: n + nodes(rest),
+                });
+            };
+            let variables = Variables::Under(sort, &*variables);
+            let over = Scope::Over(&*scope);
+            let under = Scope::Under(&a, &over);
+            let (c, n) = walk(alloc, decls, &variables, &under, rest, n)?;
+            unpacked(alloc, c, n)
+        }
     }
 }
 
@@ -69,107 +124,151 @@ fn is_assumable(decls: &Decls, variables: &Variables, a: &Formula) -> bool
     fits(a) && well_sorted_under(decls, variables, a)
 }
 
-// A hypothesis of node `n`.
-#[inline(never)]
-fn used<'f>(scope: &Scope<'f, '_>, index: u32, n: u32) -> Result<(Typed<'f>, u32), Untyped>
-    requires scope { AreMeasured scope.now }
-    requires numbers { n + 1 < 2 ^ 32 }
-    ensures gives { Gives result (found_at (slice_get (hypotheses_under scope.now) index) n) }
+// The answer at node `n`.
+fn at<'f>(a: Option<Found<'f>>, n: u32) -> Result<(Found<'f>, u32), Untyped>
+    requires { n + 1 < 2 ^ 32 }
+    ensures gives { Gives result (found_at (option_map found_tree a.entry) n) }
     ensures next { IfOk result (λ r. r.1 ≡ n + 1) }
-    ensures measured { IfOk result (λ r. IsMeasured r.0) }
 {
-    match hypothesis(scope, index) {
+    match a {
         Some(a) => Ok((a, n + 1)),
         None => Err(Untyped::At { place: n }),
     }
 }
 
-#[tactic(auto, unfolding(formulas::specs::Sorts::fits))]
-fn measured(a: &Formula) -> (u32, u32)
-    requires { sorts.fits (formula_tree a.now) ≡ true }
-    ensures size { result.0 ≡ sorts.size (formula_tree a.now) }
-    ensures depth { result.1 ≡ sorts.depth (formula_tree a.now) }
+// A node without parts.
+#[inline(never)]
+fn leaf<'f>(
+    alloc: Global,
+    decls: &Decls,
+    variables: &Variables,
+    scope: &Scope<'f, '_>,
+    p: &'f Proof,
+    n: u32,
+) -> Result<(Found<'f>, u32), Untyped>
+    requires assumed { place.AreAssumable decls.now (sorts_in variables.now) (hypotheses_under scope.now) }
+    requires over { variables_over scope.now ≤ length (sorts_in variables.now) }
+    requires few { length (sorts_in variables.now) < 2 ^ 31 + 2 ^ 30 }
+    requires numbers { n + 1 < 2 ^ 32 }
+    ensures gives { Gives result (found (rules.of_leaf decls.now (sorts_in variables.now) (hypotheses_under scope.now) (proof_tree p.now)) n) }
+    ensures next { IfOk result (λ r. r.1 ≡ n + 1) }
 {
-    (size(a), depth(a))
+    at(of_leaf(alloc, decls, variables, scope, p)?, n)
 }
 
-// The implication of node `n`. Its size and depth come from those of its parts.
+// A node whose part has the formula `f`.
 #[inline(never)]
-#[tactic(auto, unfolding(formulas::specs::Sorts::fits))]
-fn implication<'f>(
+fn one<'f>(
+    alloc: Global,
+    decls: &Decls,
+    variables: &Variables,
+    p: &'f Proof,
+    f: Found<'f>,
+    n: u32,
+) -> Result<(Found<'f>, u32), Untyped>
+    requires good { place.is_assumable decls.now (sorts_in variables.now) (found_tree f) ≡ true }
+    requires few { length (sorts_in variables.now) < 2 ^ 31 + 2 ^ 30 }
+    requires numbers { n + 1 < 2 ^ 32 }
+    ensures gives { Gives result (found (rules.of_one decls.now (sorts_in variables.now) (proof_tree p.now) (found_tree f.entry)) n) }
+    ensures next { IfOk result (λ r. r.1 ≡ n + 1) }
+{
+    at(of_one(alloc, decls, variables, p, f)?, n)
+}
+
+// A node whose parts have the formulas `f` and `g`.
+#[inline(never)]
+#[tactic(auto, using(crate::proofs::Sorted::assumable_fits))]
+fn two<'f>(
+    alloc: Global,
+    decls: &Decls,
+    variables: &Variables,
+    p: &'f Proof,
+    f: Found<'f>,
+    g: Found<'f>,
+    n: u32,
+) -> Result<(Found<'f>, u32), Untyped>
+    requires left { place.is_assumable decls.now (sorts_in variables.now) (found_tree f) ≡ true }
+    requires right { place.is_assumable decls.now (sorts_in variables.now) (found_tree g) ≡ true }
+    requires few { length (sorts_in variables.now) < 2 ^ 31 + 2 ^ 30 }
+    requires numbers { n + 1 < 2 ^ 32 }
+    ensures gives { Gives result (found (rules.of_two decls.now (sorts_in variables.now) (proof_tree p.now) (found_tree f.entry) (found_tree g.entry)) n) }
+    ensures next { IfOk result (λ r. r.1 ≡ n + 1) }
+{
+    at(of_two(alloc, decls, variables, p, f, g)?, n)
+}
+
+// The implication of what was assumed.
+#[inline(never)]
+fn lambda<'f>(
     alloc: Global,
     a: &'f Formula,
-    size: u32,
-    depth: u32,
-    b: Typed<'f>,
+    b: Found<'f>,
     n: u32,
-) -> Result<(Typed<'f>, u32), Untyped>
-    requires size { size ≡ sorts.size (formula_tree a.now) }
-    requires depth { depth ≡ sorts.depth (formula_tree a.now) }
-    requires assumed { sorts.fits (formula_tree a.now) ≡ true }
-    requires measured { IsMeasured b }
-    requires numbers { n + 1 < 2 ^ 32 }
-    ensures gives { Gives result (found (joined implies (formula_tree a.now) (found_tree b.entry.found)) n) }
+) -> Result<(Found<'f>, u32), Untyped>
+    requires { n + 1 < 2 ^ 32 }
+    ensures gives { Gives result (found (Some (joined implies (formula_tree a.now) (found_tree b.entry))) n) }
     ensures next { IfOk result (λ r. r.1 ≡ n + 1) }
-    ensures measured { IfOk result (λ r. IsMeasured r.0) }
 {
-    let below = match b.depth {
-        Some(depth) => depth,
-        None => levels(&b.found),
-    };
-    let size = 1 + size + b.size;
-    let depth = 1 + depth.max(below);
-    if size > FORMULA_NODES || depth > FORMULA_DEPTH {
-        return Err(Untyped::At { place: n });
-    }
-    let found = implies(alloc, a, b.found)?;
-    let depth = Some(depth);
-    Ok((Typed { found, size, depth }, n + 1))
+    at(fitted(implication(alloc, Found::Known(a), b)?), n)
 }
 
-fn implies<'f>(alloc: Global, a: &'f Formula, b: Found<'f>) -> Result<Found<'f>, NoMemory>
-    ensures { IfOk result (λ r. found_tree r ≡ joined implies (formula_tree a.now) (found_tree b.entry)) }
-{
-    Ok(Found::Implies(a, Box::new(alloc, b)?))
-}
-
-// The right side of the implication `f` whose left side is `a`, of node `n`.
+// The universal formula over what was proved of a new variable.
 #[inline(never)]
-fn applied<'f>(f: Typed<'f>, a: Typed<'f>, n: u32) -> Result<(Typed<'f>, u32), Untyped>
-    requires implication { IsMeasured f }
-    requires argument { IsMeasured a }
-    requires numbers { n + 1 < 2 ^ 32 }
-    ensures gives { Gives result (found_right (right_of (found_tree f.entry.found) (found_tree a.entry.found)) n) }
+fn general<'f>(
+    alloc: Global,
+    sort: Sort,
+    a: Found<'f>,
+    n: u32,
+) -> Result<(Found<'f>, u32), Untyped>
+    requires { n + 1 < 2 ^ 32 }
+    ensures gives { Gives result (found (Some (quantified for_all sort (found_tree a.entry))) n) }
     ensures next { IfOk result (λ r. r.1 ≡ n + 1) }
-    ensures measured { IfOk result (λ r. IsMeasured r.0) }
 {
-    let Some(found) = right_side(f.found, &a.found) else {
-        return Err(Untyped::At { place: n });
-    };
-    let size = f.size - a.size - 1;
-    let depth = None;
-    Ok((Typed { found, size, depth }, n + 1))
+    at(fitted(universal(alloc, sort, a)?), n)
 }
 
-// The right side of an implication that has that left side.
-fn right_side<'f>(f: Found<'f>, left: &Found) -> Option<Found<'f>>
-    ensures { option_map (λ b. found_tree b) result ≡ right_of (found_tree f.entry) (found_tree left.now) }
+// What both cases have.
+#[inline(never)]
+fn cases<'f>(c: Found<'f>, d: &Found<'f>, n: u32) -> Result<(Found<'f>, u32), Untyped>
+    requires fitting { fits_tree (found_tree c) ≡ true }
+    requires numbers { n + 1 < 2 ^ 32 }
+    ensures gives { Gives result (found (rules.of_cases (found_tree c.entry) (found_tree d.now)) n) }
+    ensures next { IfOk result (λ r. r.1 ≡ n + 1) }
 {
-    match f {
-        Found::Known(Formula::Imp(a, b)) => {
-            if matches(a, left) {
-                Some(Found::Known(b))
-            } else {
-                None
-            }
-        }
-        Found::Known(_) => None,
-        Found::Implies(a, b) => {
-            if matches(a, left) {
-                Some(Box::into_inner(b))
-            } else {
-                None
-            }
-        }
+    at(of_cases(c, d), n)
+}
+
+// What follows for the new variable, without it.
+#[inline(never)]
+fn unpacked<'f>(alloc: Global, c: Found<'f>, n: u32) -> Result<(Found<'f>, u32), Untyped>
+    requires fitting { fits_tree (found_tree c) ≡ true }
+    requires numbers { n + 1 < 2 ^ 32 }
+    ensures gives { Gives result (found (rules.of_unpacked (found_tree c.entry)) n) }
+    ensures next { IfOk result (λ r. r.1 ≡ n + 1) }
+{
+    at(of_unpacked(alloc, c)?, n)
+}
+
+// The sides of a disjunction.
+#[inline(never)]
+fn sides<'f>(f: Found<'f>) -> Option<(Found<'f>, Found<'f>)>
+    ensures some { IfSome result (λ r. found_tree f.entry ≡ joined or_else (found_tree r.0) (found_tree r.1)) }
+    ensures none { IfNone result ((place : ℕ) (next : FormulaTree → FormulaTree → Walk) → with_sides (found_tree f.entry) place next ≡ Err place) }
+{
+    match opened(f) {
+        Head::Disj(a, b) => Some((a, b)),
+        _ => None,
+    }
+}
+
+// The sort and the body of an existential formula.
+#[inline(never)]
+fn body<'f>(f: Found<'f>) -> Option<(Sort, Found<'f>)>
+    ensures some { IfSome result (λ r. found_tree f.entry ≡ quantified there_is r.0 (found_tree r.1)) }
+    ensures none { IfNone result ((place : ℕ) (next : SortTree → FormulaTree → Walk) → with_body (found_tree f.entry) place next ≡ Err place) }
+{
+    match opened(f) {
+        Head::Ex(sort, a) => Some((sort, a)),
+        _ => None,
     }
 }

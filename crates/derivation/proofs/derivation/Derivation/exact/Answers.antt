@@ -5,7 +5,7 @@ use Rattle.proof_terms.specs.Tree.{proof_tree}
 use Rattle.proof_terms.specs.Size.{proof_depth, proof_size}
 use Rattle.proof_terms.proofs.Sizes.{depth_within_size}
 use Rattle.derivation.specs.Derivation.{DerivationTree, ProgressTree, progress_tree, proving, finished, abstracted, assumed_in, derivation_tree}
-use Rattle.derivation.proofs.Derived.{exact_kept, exact_within, hypotheses_count, no_variables}
+use Rattle.derivation.proofs.Derived.{assumed_kept, exact_kept, exact_within, hypotheses_count, no_variables}
 use Rattle.derivation.proofs.derivation.Derivation.exact.Goals as goal
 
 pub overflow_add-levels : goal.overflow_add-levels
@@ -19,6 +19,9 @@ returns-then-not-is_within-clause-refused c = λ _ next s.
     let few : c.args.self.now.nodes - 1 + c.size.result ≤ 200000 = omega (arith, c.size.ensures, limits.0) in
     let low : c.len.result + c.depth.result ≤ 2048 = omega (arith, c.depth.ensures, c.len.ensures, hypotheses_count c.in-Proving.context, limits.1) in
     absurd (cc (sym c.if-not-is_within.true ∙ c.is_within.ensures.1 (few, low)))
+
+pub shows-requires-assumed : goal.shows-requires-assumed
+shows-requires-assumed c = assumed_kept (derivation_tree c.args.self.now) (hypotheses_of c.in-Proving.context) (formula_tree c.in-Proving.goal) c.requires.kept.derived (ap progress_tree c.in-Proving.is)
 
 pub returns-clause-taken : goal.returns-clause-taken
 returns-clause-taken c =

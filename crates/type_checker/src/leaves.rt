@@ -1,0 +1,134 @@
+//! The rules without parts.
+
+ghost use Rattle.std.specs.Prelude.{◌≡◌, ◌∷◌, ◌&&◌, ◌+◌, ◌<◌, ◌≤◌, ◌^◌, length, Some, IfOk};
+ghost use Rattle.std.specs.Option.{option_map};
+ghost use Rattle.ck_base.specs.declared.decl.Sort.TheVariants as sorts;
+ghost use Rattle.sorted_terms.specs.Tree.{term_tree, binary, equal};
+ghost use Rattle.sorted_terms.specs.Variables.{sorts_in};
+ghost use Rattle.sorted_terms.specs.Sorts.{sort_of, has_sort};
+ghost use Rattle.formulas.specs.Tree.{formula_tree, holds};
+ghost use Rattle.formulas.specs.Sorts.{well_sorted, fits as fits_tree};
+ghost use Rattle.arith_axioms.specs.Axioms.{axiom_at, induction as induction_form};
+ghost use Rattle.arith_axioms.specs.Computing.{computing};
+ghost use Rattle.proof_terms.specs.Tree.{proof_tree};
+ghost use Rattle.type_checker.specs.Found.{found_tree};
+ghost use Rattle.type_checker.specs.Place.{AreAssumable};
+ghost use Rattle.type_checker.specs.Rules as rules;
+ghost use Rattle.type_checker.specs.Scope.{hypotheses_under, variables_over};
+
+use crate::fitting::fitted;
+use crate::instances::is_of;
+use crate::scope::{Scope, hypothesis};
+use crate::typed::Found;
+use arith_axioms::{axiom, compute, induction};
+use ck_base::limits::{FORMULA_DEPTH, FORMULA_NODES};
+use ck_base::{Decls, NoMemory, Sort};
+use formulas::{Formula, fits, well_sorted_under};
+use proof_terms::Proof;
+use sorted_terms::{Term, Variables, copy, spend};
+use std::alloc::Global;
+
+/// The formula of a node without parts, where it has one that fits. `NoMemory`, here and below, where
+/// memory was refused.
+#[tactic(auto, using(crate::proofs::Ruled::hypothesis_kept, crate::proofs::Ruled::hypotheses_room))]
+pub fn of_leaf<'f>(
+    alloc: Global,
+    decls: &Decls,
+    variables: &Variables,
+    scope: &Scope<'f, '_>,
+    p: &'f Proof,
+) -> Result<Option<Found<'f>>, NoMemory>
+    requires assumed { AreAssumable decls.now (sorts_in variables.now) (hypotheses_under scope.now) }
+    requires over { variables_over scope.now ≤ length (sorts_in variables.now) }
+    requires few { length (sorts_in variables.now) < 2 ^ 31 + 2 ^ 30 }
+    ensures { IfOk result (λ o. option_map found_tree o ≡ rules.fitting (rules.of_leaf decls.now (sorts_in variables.now) (hypotheses_under scope.now) (proof_tree p.now))) }
+{
+    match p {
+        Proof::Hyp(index) => hypothesis(alloc, scope, *index),
+        Proof::Refl(t) => reflexive(alloc, decls, variables, t),
+        Proof::Axiom(i) => axiom_found(alloc, *i),
+        Proof::Induct(a) => induction_found(alloc, decls, variables, a),
+        Proof::Compute(t) => computed(alloc, decls, variables, t),
+        _ => Ok(None),
+    }
+}
+
+// An integer term is equal to itself.
+fn reflexive<'f>(
+    alloc: Global,
+    decls: &Decls,
+    variables: &Variables,
+    t: &Term,
+) -> Result<Option<Found<'f>>, NoMemory>
+    ensures { IfOk result (λ o. option_map found_tree o ≡ rules.fitting (rules.given (has_sort (sort_of decls.now (sorts_in variables.now) (term_tree t.now)) sorts.Int) (holds (binary equal (term_tree t.now) (term_tree t.now))))) }
+{
+    if !is_of(decls, variables, t, Sort::Int) || !fits_twice(t) {
+        return Ok(None);
+    }
+    let left = Box::new(alloc, copy(alloc, t)?)?;
+    let right = Box::new(alloc, copy(alloc, t)?)?;
+    Ok(Some(Found::Built(Formula::Holds(Term::Eq(left, right)))))
+}
+
+// Whether the equation of the term with itself fits.
+#[tactic(auto, unfolding(formulas::specs::Sorts::fits))]
+fn fits_twice(t: &Term) -> bool
+    ensures { result ≡ fits_tree (holds (binary equal (term_tree t.now) (term_tree t.now))) }
+{
+    spend(t, FORMULA_NODES / 2 - 1, FORMULA_DEPTH - 2).is_some()
+}
+
+fn axiom_found<'f>(alloc: Global, i: u32) -> Result<Option<Found<'f>>, NoMemory>
+    ensures { IfOk result (λ o. option_map found_tree o ≡ rules.fitting (axiom_at i)) }
+{
+    match axiom(alloc, i)? {
+        Some(a) => Ok(fitted(Found::Built(a))),
+        None => Ok(None),
+    }
+}
+
+// The induction form. It has a few times the nodes of its formula, which is looked at first.
+#[tactic(auto, using(crate::proofs::Ruled::unfit_induction))]
+fn induction_found<'f>(
+    alloc: Global,
+    decls: &Decls,
+    variables: &Variables,
+    a: &Formula,
+) -> Result<Option<Found<'f>>, NoMemory>
+    ensures { IfOk result (λ o. option_map found_tree o ≡ rules.fitting (rules.given (well_sorted decls.now (sorts.Int ∷ sorts_in variables.now) (formula_tree a.now)) (induction_form (formula_tree a.now)))) }
+{
+    let under = Variables::Under(Sort::Int, &*variables);
+    if !fits(a) || !well_sorted_under(decls, &under, a) {
+        return Ok(None);
+    }
+    Ok(fitted(Found::Built(induction(alloc, a)?)))
+}
+
+// A term whose computed value is true.
+fn computed<'f>(
+    alloc: Global,
+    decls: &Decls,
+    variables: &Variables,
+    t: &Term,
+) -> Result<Option<Found<'f>>, NoMemory>
+    ensures { IfOk result (λ o. option_map found_tree o ≡ rules.fitting (rules.given (has_sort (sort_of decls.now (sorts_in variables.now) (term_tree t.now)) sorts.Bool && rules.computes (computing (term_tree t.now))) (holds (term_tree t.now)))) }
+{
+    if !fits_alone(t) || !is_of(decls, variables, t, Sort::Bool) || !is_computed(t) {
+        return Ok(None);
+    }
+    Ok(Some(Found::Built(Formula::Holds(copy(alloc, t)?))))
+}
+
+// Whether the term fits as a formula.
+#[tactic(auto, unfolding(formulas::specs::Sorts::fits))]
+fn fits_alone(t: &Term) -> bool
+    ensures { result ≡ fits_tree (holds (term_tree t.now)) }
+{
+    spend(t, FORMULA_NODES - 1, FORMULA_DEPTH - 1).is_some()
+}
+
+fn is_computed(t: &Term) -> bool
+    ensures { result ≡ rules.computes (computing (term_tree t.now)) }
+{
+    compute(t).is_ok()
+}
