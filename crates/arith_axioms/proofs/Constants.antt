@@ -63,10 +63,10 @@ right_factor : (m n : ℕ) → 0 < m → n ≤ m * n
 right_factor m n h = subst (λ k. n ≤ k) (mul_comm n m) (left_factor n m h)
 
 -- the factors of a product are as narrow as the product
-left_narrow : (s t : TermTree) → term_weight s * term_weight t < 2 ^ 127 → term_weight s < 2 ^ 127
+pub left_narrow : (s t : TermTree) → term_weight s * term_weight t < 2 ^ 127 → term_weight s < 2 ^ 127
 left_narrow s t h = le_lt_trans (left_factor (term_weight s) (term_weight t) (weight_positive t)) h
 
-right_narrow : (s t : TermTree) → term_weight s * term_weight t < 2 ^ 127 → term_weight t < 2 ^ 127
+pub right_narrow : (s t : TermTree) → term_weight s * term_weight t < 2 ^ 127 → term_weight t < 2 ^ 127
 right_narrow s t h = le_lt_trans (right_factor (term_weight s) (term_weight t) (weight_positive s)) h
 
 -- what the code computes fits 128 bits

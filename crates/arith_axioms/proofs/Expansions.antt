@@ -141,14 +141,14 @@ abs_negation (pos zero) = refl
 abs_negation (pos (suc n)) = omega arith
 abs_negation (negsuc n) = omega arith
 
-negated_sum : (es : Polynomial) → absolute_sum (negated es) ≡ absolute_sum es
+pub negated_sum : (es : Polynomial) → absolute_sum (negated es) ≡ absolute_sum es
 negated_sum [] = refl
 negated_sum ((c, p) ∷ es) = ap₂ (λ m n. m + n) (abs_negation c) (negated_sum es)
 
 regrouped : (a b c d : ℕ) → b ≡ c + d → a + b ≡ a + c + d
 regrouped a b c d e = omega arith
 
-appended_sum : (es fs : Polynomial) → absolute_sum (es ++ fs) ≡ absolute_sum es + absolute_sum fs
+pub appended_sum : (es fs : Polynomial) → absolute_sum (es ++ fs) ≡ absolute_sum es + absolute_sum fs
 appended_sum [] fs = omega arith
 appended_sum ((c, p) ∷ es) fs = regrouped (unsigned_abs c) (absolute_sum (es ++ fs)) (absolute_sum es) (absolute_sum fs) (appended_sum es fs)
 

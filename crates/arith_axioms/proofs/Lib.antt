@@ -6,3 +6,9 @@ pub mod Numbers
 pub mod Next
 pub mod Constants
 pub mod Sorting
+pub mod Orders
+pub mod Runs
+pub mod Merging
+pub mod Rooms
+pub mod Steps
+pub mod Differences

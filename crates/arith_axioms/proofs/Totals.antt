@@ -139,7 +139,7 @@ zero_value (suc n) ((c, p) ∷ es) state environment fits h =
 
 -- Two polynomials with the same totals
 
-appended_total : (es fs : Polynomial) (p : Product) → total_in (es ++ fs) p ≡ total_in es p +ℤ total_in fs p
+pub appended_total : (es fs : Polynomial) (p : Product) → total_in (es ++ fs) p ≡ total_in es p +ℤ total_in fs p
 appended_total [] fs p = from_zero (total_in fs p)
   where
     from_zero : (a : ℤ) → a ≡ pos 0 +ℤ a
@@ -153,7 +153,7 @@ appended_total ((c, q) ∷ es) fs p = counted (same_product p q) (appended_total
     counted true h = regroup c (total_in (es ++ fs) p) (total_in es p) (total_in fs p) h
     counted false h = h
 
-negated_total : (es : Polynomial) (p : Product) → total_in (negated es) p ≡ neg_ℤ (total_in es p)
+pub negated_total : (es : Polynomial) (p : Product) → total_in (negated es) p ≡ neg_ℤ (total_in es p)
 negated_total [] p = refl
 negated_total ((c, q) ∷ es) p = counted (same_product p q) (negated_total es p)
   where

@@ -1,5 +1,5 @@
--- The axioms, induction forms and computed terms are true, and the expansion of a term tells its value.
-use Rattle.std.specs.Prelude.{◌≡◌, ℕ, ◌≤◌, true, unsigned_abs, List, ◌∷◌, length, Some, Ok}
+-- The axioms, induction forms, computed terms and ring equations are true, and the expansion of a term tells its value.
+use Rattle.std.specs.Prelude.{◌≡◌, ℕ, ◌≤◌, ℤ, true, unsigned_abs, List, ◌∷◌, length, Some, Ok}
 use Rattle.ck_base.specs.declared.decl.Sort.{Sort}
 use Rattle.ck_base.specs.declared.decl.Sort.TheVariants as sort
 use Rattle.ck_base.specs.declared.decl.Decl.{Decl}
@@ -13,6 +13,7 @@ use Rattle.formulas.specs.Sorts.{well_sorted}
 use Rattle.arith_axioms.specs.Axioms.{axiom_at, induction}
 use Rattle.arith_axioms.specs.Computing.{computing}
 use Rattle.arith_axioms.specs.Polynomials.{Product, expansion, total, IsSamePolynomial, absolute_sum, polynomial_value}
+use Rattle.arith_axioms.specs.Ring.{IsRingEquation, IsLeastDifference}
 
 -- every axiom is true in every state and environment
 abbrev pub AxiomsAreTrue : Type 0
@@ -76,3 +77,18 @@ WeightBoundsCoefficients = (t : TermTree) → absolute_sum (expansion t) ≤ ter
 -- the absolute value of each total of a term is at most its weight
 abbrev pub WeightBoundsTotals : Type 0
 WeightBoundsTotals = (p : Product) (t : TermTree) → unsigned_abs (total p t) ≤ term_weight t
+
+-- where `ring` allows it, the equation of two integer terms is true in every state and environment
+abbrev pub RingEquationsAreTrue : Type 0
+RingEquationsAreTrue =
+    (names : List Decl) (variables : List Sort) (s t : TermTree)
+    → sort_of names variables s ≡ Some sort.Int → sort_of names variables t ≡ Some sort.Int
+    → IsRingEquation s t
+    → (state : State) (environment : Environment) → IsState names state → AreOf variables environment
+    → Truth (holds (binary equal s t)) state environment
+
+-- two terms have at most one least product with different totals, and these are its totals
+abbrev pub LeastDifferenceIsOne : Type 0
+LeastDifferenceIsOne =
+    (s t : TermTree) (p q : Product) (a b c d : ℤ)
+    → IsLeastDifference s t p a b → IsLeastDifference s t q c d → (p ≡ q) × (a ≡ c) × (b ≡ d)

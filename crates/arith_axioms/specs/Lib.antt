@@ -1,4 +1,6 @@
 pub mod Axioms
 pub mod Polynomials
 pub mod Computing
+pub mod Ring
+pub mod Gathering
 pub mod Laws

@@ -1,7 +1,7 @@
-//! The axioms, induction forms and computed terms are true, and the expansion of a term tells its value:
-//! laws that are proved.
+//! The axioms, induction forms, computed terms and ring equations are true, and the expansion of a term tells
+//! its value: laws that are proved.
 
-ghost use Rattle.arith_axioms.specs.Laws.{AxiomsAreSorted, AxiomsAreTrue, ComputedTermsAreTrue, ExpansionKeepsValue, ExpansionLength, InductionIsTrue, InductionKeepsSorts, SamePolynomialsAreEqual, SamePolynomialsHaveOneValue, WeightBoundsCoefficients, WeightBoundsTotals};
+ghost use Rattle.arith_axioms.specs.Laws.{AxiomsAreSorted, AxiomsAreTrue, ComputedTermsAreTrue, ExpansionKeepsValue, ExpansionLength, InductionIsTrue, InductionKeepsSorts, LeastDifferenceIsOne, RingEquationsAreTrue, SamePolynomialsAreEqual, SamePolynomialsHaveOneValue, WeightBoundsCoefficients, WeightBoundsTotals};
 
 /// Every axiom is true in every state and environment.
 pub fn axioms_are_true()
@@ -33,6 +33,16 @@ pub fn expansion_keeps_value()
 pub fn same_polynomials_are_equal()
     ensures equal { SamePolynomialsAreEqual }
     ensures value { SamePolynomialsHaveOneValue }
+{}
+
+/// Where `ring` allows it, the equation of two integer terms is true in every state and environment.
+pub fn ring_equations_are_true()
+    ensures { RingEquationsAreTrue }
+{}
+
+/// Two terms have at most one least product with different totals.
+pub fn least_difference_is_one()
+    ensures { LeastDifferenceIsOne }
 {}
 
 /// The expansion of a term has as many monomials as its number of expansions tells.

@@ -104,3 +104,105 @@ fn computes(rt: HostRuntime) -> Result<(), Fail> {
     assert_eq!(rt; compute(&t), Err(NoCompute::Wide));
     Ok(())
 }
+
+fn sum(alloc: Global, s: Term, t: Term) -> Result<Term, NoMemory> {
+    Ok(Term::Add(Box::new(alloc, s)?, Box::new(alloc, t)?))
+}
+
+fn difference(alloc: Global, s: Term, t: Term) -> Result<Term, NoMemory> {
+    Ok(Term::Sub(Box::new(alloc, s)?, Box::new(alloc, t)?))
+}
+
+/// The name 0 and a number.
+fn plus(alloc: Global, n: i128) -> Result<Term, NoMemory> {
+    sum(alloc, Term::Var(0), Term::Int(n))
+}
+
+/// As many factors `x + 1` as told and one more, which is `x + n`.
+fn power(alloc: Global, count: u32, n: i128) -> Result<Term, NoMemory> {
+    let mut t = plus(alloc, n)?;
+    for _ in 0..count {
+        t = product(alloc, plus(alloc, 1)?, t)?;
+    }
+    Ok(t)
+}
+
+/// What `ring` tells of two terms, which are dropped.
+fn tell(alloc: Global, s: Term, t: Term) -> Result<(), NoRing> {
+    ring(alloc, &s, &t)
+}
+
+fn is_wide(found: Result<(), NoRing>) -> bool {
+    matches!(found, Err(NoRing::Wide))
+}
+
+fn counts(found: Result<(), NoRing>, wanted: u32) -> bool {
+    match found {
+        Err(NoRing::Many(count)) => count == wanted,
+        _ => false,
+    }
+}
+
+fn differs(found: Result<(), NoRing>, factors: &[Factor], wanted: (i128, i128)) -> bool {
+    match found {
+        Err(
+            NoRing::Differ {
+                product,
+                left,
+                right,
+            },
+        ) => product.as_slice() == factors && (left, right) == wanted,
+        _ => false,
+    }
+}
+
+#[test]
+fn rings(rt: HostRuntime) -> Result<(), Fail> {
+    let alloc = rt.alloc();
+    let (x, one) = (Term::Var(0), Term::Int(1));
+    let s = product(alloc, plus(alloc, 1)?, plus(alloc, -1)?)?;
+    let t = difference(alloc, product(alloc, x, Term::Var(0))?, one)?;
+    assert!(rt; tell(alloc, s, t).is_ok(), "(x + 1) * (x - 1)");
+    // With the names a = 0 and i = 1.
+    let s = product(alloc, Term::Var(0), sum(alloc, Term::Var(1), Term::Int(1))?)?;
+    let t = sum(
+        alloc,
+        product(alloc, Term::Var(0), Term::Var(1))?,
+        Term::Var(0),
+    )?;
+    assert!(rt; tell(alloc, s, t).is_ok(), "a * (i + 1)");
+    let s = product(alloc, Term::Var(0), sum(alloc, Term::Var(1), Term::Int(1))?)?;
+    let two = product(alloc, Term::Int(2), Term::Var(0))?;
+    let t = sum(alloc, product(alloc, Term::Var(0), Term::Var(1))?, two)?;
+    assert!(rt;
+        differs(tell(alloc, s, t), &[Factor::Name(0)], (1, 2)),
+        "a * i + 2 * a"
+    );
+    Ok(())
+}
+
+#[test]
+fn rings_at_the_bounds(rt: HostRuntime) -> Result<(), Fail> {
+    let alloc = rt.alloc();
+    let s = power(alloc, 10, 1)?;
+    assert!(rt;
+        differs(tell(alloc, s, Term::Int(0)), &[], (1, 0)),
+        "2048 and 1"
+    );
+    let s = power(alloc, 11, 1)?;
+    assert!(rt; counts(tell(alloc, s, Term::Int(0)), 4097), "4096 and 1");
+    let (s, t) = (power(alloc, 10, 1)?, power(alloc, 10, 1)?);
+    assert!(rt; tell(alloc, s, t).is_ok(), "2048 and 2048");
+    let (s, t) = (power(alloc, 10, 1)?, power(alloc, 10, 2)?);
+    assert!(rt;
+        differs(tell(alloc, s, t), &[], (1, 2)),
+        "2048 and 2048 others"
+    );
+    let s = sum(alloc, Term::Int(HALF - 1), Term::Int(0))?;
+    assert!(rt; tell(alloc, s, Term::Int(HALF - 1)).is_ok(), "2^127 - 1");
+    assert!(rt;
+        is_wide(tell(alloc, Term::Int(HALF), Term::Int(HALF))),
+        "2^127"
+    );
+    Ok(())
+}
