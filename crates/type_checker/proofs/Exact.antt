@@ -13,13 +13,14 @@ use Rattle.formulas.specs.Context.{raised}
 use Rattle.arith_axioms.specs.declared.no_compute.NoCompute.{NoCompute}
 use Rattle.arith_axioms.specs.Axioms.{axiom_at, induction as induction_form}
 use Rattle.arith_axioms.specs.Computing.{computing as computed}
-use Rattle.proof_terms.specs.Tree.{ProofTree, hypothesis, lambda, application, general, special, pair, first, second, left_of, right_of, by_cases, pack, unpack, from_bottom, stable, reflexive, rewriting, an_axiom, induction, computing}
+use Rattle.proof_terms.specs.Tree.{ProofTree, hypothesis, lambda, application, general, special, pair, first, second, left_of, right_of, by_cases, pack, unpack, from_bottom, stable, reflexive, rewriting, an_axiom, induction, computing, ring_equal}
 use Rattle.type_checker.specs.Typing.{Has}
 use Rattle.type_checker.specs.Place.{proof_nodes, is_assumable, AreAssumable}
 use Rattle.type_checker.specs.Same.{same_formula}
-use Rattle.type_checker.specs.Rules.{given, computes, of_leaf, special_of, first_of, second_of, denied_of, and_then, of_one, applied, rewritten, of_two, of_cases, of_unpacked}
+use Rattle.type_checker.specs.Rules.{given, computes, of_leaf, special_of, first_of, second_of, denied_of, and_then, is_ring_equation, of_one, applied, rewritten, of_two, of_cases, of_unpacked}
 use Rattle.type_checker.specs.Walk.{Walk, found_at, found, continued, with_sides, with_body, walked}
 use Rattle.type_checker.proofs.Same.{formula_is, formula_same}
+use Rattle.type_checker.proofs.Rings.{ring_is, is_ring}
 use Rattle.type_checker.proofs.Sides.{fits_left_side}
 use Rattle.type_checker.proofs.Sorted.{sort_known, known_sort, assumable}
 use Rattle.type_checker.proofs.Lowering.{unpacked_ok, unpacked}
@@ -234,6 +235,12 @@ has names variables hypotheses (computing t) n c m e =
     let r = given_ok (has_sort (sort_of names variables t) sort.Bool && computes (computed t)) (holds t) c u.1 in
     let x = and_parts (has_sort (sort_of names variables t) sort.Bool) (computes (computed t)) r.0 in
     ((u.0, sort_known (sort_of names variables t) sort.Bool x.0, computes_ok (computed t) x.1, r.1), u.2)
+has names variables hypotheses (ring_equal s t) n c m e =
+    let u = found_ok (of_leaf names variables hypotheses (ring_equal s t)) n c m e in
+    let r = given_ok (has_sort (sort_of names variables s) sort.Int && (has_sort (sort_of names variables t) sort.Int && is_ring_equation s t)) (holds (binary equal s t)) c u.1 in
+    let x = and_parts (has_sort (sort_of names variables s) sort.Int) (has_sort (sort_of names variables t) sort.Int && is_ring_equation s t) r.0 in
+    let y = and_parts (has_sort (sort_of names variables t) sort.Int) (is_ring_equation s t) x.1 in
+    ((u.0, sort_known (sort_of names variables s) sort.Int x.0, sort_known (sort_of names variables t) sort.Int y.0, ring_is s t y.1, r.1), u.2)
 has names variables hypotheses p n a m e = absurd (cc)
 
 -- Conversely, the walk gives the formula that a proof has.
@@ -325,6 +332,9 @@ finds names variables hypotheses (induction a) c n h =
 finds names variables hypotheses (computing t) c n h =
     rw (known_sort (sort_of names variables t) sort.Bool h.1, h.2)
     (subst (λ x. found (Some (holds t)) n ≡ Ok (x, n + 1)) (sym h.3) (found_fits (holds t) n (n + 1) (subst (λ x. fits x ≡ true) h.3 h.0) refl))
+finds names variables hypotheses (ring_equal s t) c n h =
+    rw (known_sort (sort_of names variables s) sort.Int h.1, known_sort (sort_of names variables t) sort.Int h.2, is_ring s t h.3)
+    (subst (λ x. found (Some (holds (binary equal s t))) n ≡ Ok (x, n + 1)) (sym h.4) (found_fits (holds (binary equal s t)) n (n + 1) (subst (λ x. fits x ≡ true) h.4 h.0) refl))
 finds names variables hypotheses p a n h = absurd h
 
 -- a walk does not both give a formula and end at a place

@@ -1,4 +1,5 @@
 pub mod Same
+pub mod Rings
 pub mod Symmetry
 pub mod Raising
 pub mod Sides

@@ -7,7 +7,7 @@ use Rattle.formulas.specs.Tree.{FormulaTree, bottom, Connective, implies, and_al
 use Rattle.formulas.specs.Substitution.{shift, instance}
 use Rattle.formulas.specs.Context.{raised}
 use Rattle.formulas.proofs.Substituting.{same_shifted}
-use Rattle.proof_terms.specs.Tree.{ProofTree, hypothesis, lambda, application, general, special, pair, first, second, left_of, right_of, by_cases, pack, unpack, from_bottom, stable, reflexive, rewriting, an_axiom, induction, computing}
+use Rattle.proof_terms.specs.Tree.{ProofTree, hypothesis, lambda, application, general, special, pair, first, second, left_of, right_of, by_cases, pack, unpack, from_bottom, stable, reflexive, rewriting, an_axiom, induction, computing, ring_equal}
 use Rattle.type_checker.specs.Typing.{Has}
 
 pub left_side : (c : Connective) (a b d e : FormulaTree) → joined c a b ≡ joined c d e → a ≡ d
@@ -65,4 +65,5 @@ one_formula names variables hypotheses (rewriting c p q) a b h g =
 one_formula names variables hypotheses (an_axiom i) a b h g = cc (h.1, g.1)
 one_formula names variables hypotheses (induction c) a b h g = h.2 ∙ sym g.2
 one_formula names variables hypotheses (computing t) a b h g = h.3 ∙ sym g.3
+one_formula names variables hypotheses (ring_equal s t) a b h g = h.4 ∙ sym g.4
 one_formula names variables hypotheses p a b h g = absurd h

@@ -13,7 +13,7 @@ use Rattle.formulas.specs.Substitution.{shift}
 use Rattle.formulas.specs.Context.{raised}
 use Rattle.formulas.proofs.Substituting.{sorted_shift, sorted_instance}
 use Rattle.arith_axioms.proofs.Sorting.{axiom_sorted, induction_sorted}
-use Rattle.proof_terms.specs.Tree.{ProofTree, hypothesis, lambda, application, general, special, pair, first, second, left_of, right_of, by_cases, pack, unpack, from_bottom, stable, reflexive, rewriting, an_axiom, induction, computing}
+use Rattle.proof_terms.specs.Tree.{ProofTree, hypothesis, lambda, application, general, special, pair, first, second, left_of, right_of, by_cases, pack, unpack, from_bottom, stable, reflexive, rewriting, an_axiom, induction, computing, ring_equal}
 use Rattle.type_checker.specs.Typing.{Has}
 use Rattle.type_checker.specs.Place.{is_assumable, AreAssumable}
 use Rattle.type_checker.proofs.Sides.{fits_left_side, fits_right_side, fits_body}
@@ -41,6 +41,7 @@ fitting names variables hypotheses (rewriting b p q) a h = h.0
 fitting names variables hypotheses (an_axiom i) a h = h.0
 fitting names variables hypotheses (induction b) a h = h.0
 fitting names variables hypotheses (computing t) a h = h.0
+fitting names variables hypotheses (ring_equal s t) a h = h.0
 fitting names variables hypotheses p a h = absurd h
 
 -- Shifted formulas
@@ -162,6 +163,7 @@ sorted names variables hypotheses (rewriting a p q) c all h =
 sorted names variables hypotheses (an_axiom i) a all h = axiom_sorted names variables i a h.1
 sorted names variables hypotheses (induction a) c all h = subst (λ x. well_sorted names variables x ≡ true) (sym h.2) (induction_sorted names variables a h.1)
 sorted names variables hypotheses (computing t) c all h = subst (λ x. well_sorted names variables x ≡ true) (sym h.3) (known_sort (sort_of names variables t) sort.Bool h.1)
+sorted names variables hypotheses (ring_equal s t) c all h = subst (λ x. well_sorted names variables x ≡ true) (sym h.4) (rw (h.1, h.2) refl)
 sorted names variables hypotheses p a all h = absurd h
 
 -- the formula of a proof may be a hypothesis

@@ -14,7 +14,8 @@ use Rattle.formulas.proofs.Substituting.{truth_shift, truth_instance}
 use Rattle.formulas.proofs.Stability as stability
 use Rattle.arith_axioms.proofs.Truths.{axiom_true, induction_true}
 use Rattle.arith_axioms.proofs.Constants.{computed_true}
-use Rattle.proof_terms.specs.Tree.{ProofTree, hypothesis, lambda, application, general, special, pair, first, second, left_of, right_of, by_cases, pack, unpack, from_bottom, stable, reflexive, rewriting, an_axiom, induction, computing}
+use Rattle.arith_axioms.proofs.Totals.{equal_terms}
+use Rattle.proof_terms.specs.Tree.{ProofTree, hypothesis, lambda, application, general, special, pair, first, second, left_of, right_of, by_cases, pack, unpack, from_bottom, stable, reflexive, rewriting, an_axiom, induction, computing, ring_equal}
 use Rattle.type_checker.specs.Typing.{Has}
 use Rattle.type_checker.proofs.Same.{integer_is, integer_same, boolean_is, boolean_same}
 
@@ -96,4 +97,6 @@ sound names variables hypotheses (induction a) c h state environment is are all 
     subst (λ x. Truth x state environment) (sym h.2) (induction_true a state environment)
 sound names variables hypotheses (computing t) c h state environment is are all =
     subst (λ x. Truth x state environment) (sym h.3) (computed_true t state environment h.2)
+sound names variables hypotheses (ring_equal s t) c h state environment is are all =
+    subst (λ x. Truth x state environment) (sym h.4) (equal_terms names variables s t h.1 h.2 h.3.1 state environment is are)
 sound names variables hypotheses p a h state environment is are all = absurd h

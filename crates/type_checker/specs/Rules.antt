@@ -1,18 +1,22 @@
 -- The typing rules, computed: which formula a node has, where its parts have theirs, and none where a
 -- condition of its rule fails.
-use Rattle.std.specs.Prelude.{Bool, true, false, ◌&&◌, not, if◌then◌else◌, List, ◌∷◌, Option, Some, None, slice_get, Result, Ok, Err}
+use Rattle.std.specs.Prelude.{Bool, true, false, ◌&&◌, not, if◌then◌else◌, ◌+◌, ◌^◌, nat_lt, nat_le, List, ◌∷◌, Option, Some, None, slice_get, Result, Ok, Err}
+use Rattle.std.specs.List.{list_all}
 use Rattle.ck_base.specs.declared.decl.Sort.{Sort}
 use Rattle.ck_base.specs.declared.decl.Sort.TheVariants as sort
 use Rattle.ck_base.specs.declared.decl.Decl.{Decl}
 use Rattle.sorted_terms.specs.Tree.{TermTree, boolean, binary, equal}
 use Rattle.sorted_terms.specs.Sorts.{sort_of, has_sort}
+use Rattle.sorted_terms.specs.Values.{same_integer}
+use Rattle.sorted_terms.specs.Weights.{term_weight, term_expansions}
 use Rattle.formulas.specs.Tree.{FormulaTree, bottom, holds, joined, implies, and_also, or_else, quantified, for_all, there_is}
 use Rattle.formulas.specs.Sorts.{well_sorted, fits}
 use Rattle.formulas.specs.Substitution.{occurs, instance}
 use Rattle.arith_axioms.specs.declared.no_compute.NoCompute.{NoCompute}
 use Rattle.arith_axioms.specs.Axioms.{axiom_at, induction as induction_form}
 use Rattle.arith_axioms.specs.Computing.{computing as computed}
-use Rattle.proof_terms.specs.Tree.{ProofTree, hypothesis, special, pair, application, first, second, left_of, right_of, pack, from_bottom, stable, reflexive, rewriting, an_axiom, induction, computing}
+use Rattle.arith_axioms.specs.Polynomials.{Product, Polynomial, expansion, total}
+use Rattle.proof_terms.specs.Tree.{ProofTree, hypothesis, special, pair, application, first, second, left_of, right_of, pack, from_bottom, stable, reflexive, rewriting, an_axiom, induction, computing, ring_equal}
 use Rattle.type_checker.specs.Same.{same_formula}
 
 -- a formula where it fits
@@ -28,6 +32,19 @@ abbrev pub computes : Result (Unit {0}) NoCompute → Bool
 computes (Ok u) = true
 computes (Err fault) = false
 
+-- the product has the same total in both terms
+abbrev pub same_total : TermTree → TermTree → Product → Bool
+same_total s t p = same_integer (total p s) (total p t)
+
+-- each product of the polynomial has the same total in both terms
+abbrev pub same_totals : TermTree → TermTree → Polynomial → Bool
+same_totals s t es = list_all (λ m. same_total s t m.1) es
+
+-- both bounds hold, and each product that occurs in either term has the same total in both
+unfoldable pub is_ring_equation : TermTree → TermTree → Bool
+is_ring_equation s t =
+    nat_lt (term_weight s + term_weight t) (2 ^ 127) && (nat_le (term_expansions s + term_expansions t) 4096 && (same_totals s t (expansion s) && same_totals s t (expansion t)))
+
 -- the formula of a node without parts
 abbrev pub of_leaf : List Decl → List Sort → List FormulaTree → ProofTree → Option FormulaTree
 of_leaf names variables hypotheses (hypothesis k) = slice_get hypotheses k
@@ -35,6 +52,8 @@ of_leaf names variables hypotheses (reflexive t) = given (has_sort (sort_of name
 of_leaf names variables hypotheses (an_axiom i) = axiom_at i
 of_leaf names variables hypotheses (induction a) = given (well_sorted names (sort.Int ∷ variables) a) (induction_form a)
 of_leaf names variables hypotheses (computing t) = given (has_sort (sort_of names variables t) sort.Bool && computes (computed t)) (holds t)
+of_leaf names variables hypotheses (ring_equal s t) =
+    given (has_sort (sort_of names variables s) sort.Int && (has_sort (sort_of names variables t) sort.Int && is_ring_equation s t)) (holds (binary equal s t))
 of_leaf names variables hypotheses p = None
 
 -- the body of a universal formula, at a term of its sort

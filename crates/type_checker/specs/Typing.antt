@@ -14,9 +14,10 @@ use Rattle.formulas.specs.Substitution.{shift, instance}
 use Rattle.formulas.specs.Context.{raised}
 use Rattle.arith_axioms.specs.Axioms.{axiom_at, induction as induction_form}
 use Rattle.arith_axioms.specs.Computing.{computing as computed}
-use Rattle.proof_terms.specs.Tree.{ProofTree, hypothesis, lambda, application, general, special, pair, first, second, left_of, right_of, by_cases, pack, unpack, from_bottom, stable, reflexive, rewriting, an_axiom, induction, computing}
+use Rattle.arith_axioms.specs.Ring.{IsRingEquation}
+use Rattle.proof_terms.specs.Tree.{ProofTree, hypothesis, lambda, application, general, special, pair, first, second, left_of, right_of, by_cases, pack, unpack, from_bottom, stable, reflexive, rewriting, an_axiom, induction, computing, ring_equal}
 
--- A proof has a formula. A hole has none, and the rule that compares polynomials is not built yet.
+-- A proof has a formula. A hole has none.
 abbrev pub Has : List Decl → List Sort → List FormulaTree → ProofTree → FormulaTree → Type 0
 -- the hypothesis itself
 Has names variables hypotheses (hypothesis k) a = (fits a ≡ true) × (slice_get hypotheses k ≡ Some a)
@@ -72,4 +73,7 @@ Has names variables hypotheses (induction a) c =
 -- a term whose computed value is true
 Has names variables hypotheses (computing t) c =
     (fits c ≡ true) × (sort_of names variables t ≡ Some sort.Bool) × (computed t ≡ Ok tt) × (c ≡ holds t)
+-- two integer terms that are the same polynomial are equal, where their expansions are small enough
+Has names variables hypotheses (ring_equal s t) c =
+    (fits c ≡ true) × (sort_of names variables s ≡ Some sort.Int) × (sort_of names variables t ≡ Some sort.Int) × IsRingEquation s t × (c ≡ holds (binary equal s t))
 Has names variables hypotheses p a = ⊥

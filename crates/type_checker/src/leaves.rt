@@ -20,7 +20,7 @@ use crate::fitting::fitted;
 use crate::instances::is_of;
 use crate::scope::{Scope, hypothesis};
 use crate::typed::Found;
-use arith_axioms::{axiom, compute, induction};
+use arith_axioms::{NoRing, axiom, compute, induction, ring};
 use ck_base::limits::{FORMULA_DEPTH, FORMULA_NODES};
 use ck_base::{Decls, NoMemory, Sort};
 use formulas::{Formula, fits, well_sorted_under};
@@ -49,6 +49,7 @@ pub fn of_leaf<'f>(
         Proof::Axiom(i) => axiom_found(alloc, *i),
         Proof::Induct(a) => induction_found(alloc, decls, variables, a),
         Proof::Compute(t) => computed(alloc, decls, variables, t),
+        Proof::Ring(s, t) => ring_found(alloc, decls, variables, s, t),
         _ => Ok(None),
     }
 }
@@ -62,7 +63,7 @@ fn reflexive<'f>(
 ) -> Result<Option<Found<'f>>, NoMemory>
     ensures { IfOk result (λ o. option_map found_tree o ≡ rules.fitting (rules.given (has_sort (sort_of decls.now (sorts_in variables.now) (term_tree t.now)) sorts.Int) (holds (binary equal (term_tree t.now) (term_tree t.now))))) }
 {
-    if !is_of(decls, variables, t, Sort::Int) || !fits_twice(t) {
+    if !is_of(decls, variables, t, Sort::Int) || !fits_equation(t, t) {
         return Ok(None);
     }
     let left = Box::new(alloc, copy(alloc, t)?)?;
@@ -70,12 +71,15 @@ fn reflexive<'f>(
     Ok(Some(Found::Built(Formula::Holds(Term::Eq(left, right)))))
 }
 
-// Whether the equation of the term with itself fits.
+// Whether the equation of the terms fits.
 #[tactic(auto, unfolding(formulas::specs::Sorts::fits))]
-fn fits_twice(t: &Term) -> bool
-    ensures { result ≡ fits_tree (holds (binary equal (term_tree t.now) (term_tree t.now))) }
+fn fits_equation(s: &Term, t: &Term) -> bool
+    ensures { result ≡ fits_tree (holds (binary equal (term_tree s.now) (term_tree t.now))) }
 {
-    spend(t, FORMULA_NODES / 2 - 1, FORMULA_DEPTH - 2).is_some()
+    match spend(s, FORMULA_NODES - 2, FORMULA_DEPTH - 2) {
+        Some(left) => spend(t, left, FORMULA_DEPTH - 2).is_some(),
+        None => false,
+    }
 }
 
 fn axiom_found<'f>(alloc: Global, i: u32) -> Result<Option<Found<'f>>, NoMemory>
@@ -131,4 +135,43 @@ fn is_computed(t: &Term) -> bool
     ensures { result ≡ rules.computes (computing (term_tree t.now)) }
 {
     compute(t).is_ok()
+}
+
+// Two integer terms that are the same polynomial are equal.
+fn ring_found<'f>(
+    alloc: Global,
+    decls: &Decls,
+    variables: &Variables,
+    s: &Term,
+    t: &Term,
+) -> Result<Option<Found<'f>>, NoMemory>
+    ensures { IfOk result (λ o. option_map found_tree o ≡ rules.fitting (rules.given (has_sort (sort_of decls.now (sorts_in variables.now) (term_tree s.now)) sorts.Int && (has_sort (sort_of decls.now (sorts_in variables.now) (term_tree t.now)) sorts.Int && rules.is_ring_equation (term_tree s.now) (term_tree t.now))) (holds (binary equal (term_tree s.now) (term_tree t.now))))) }
+{
+    if !fits_equation(s, t)
+        || !are_integers(decls, variables, s, t)
+        || !ring_equation(alloc, s, t)?
+    {
+        return Ok(None);
+    }
+    let left = Box::new(alloc, copy(alloc, s)?)?;
+    let right = Box::new(alloc, copy(alloc, t)?)?;
+    Ok(Some(Found::Built(Formula::Holds(Term::Eq(left, right)))))
+}
+
+fn are_integers(decls: &Decls, variables: &Variables, s: &Term, t: &Term) -> bool
+    ensures { result ≡ (has_sort (sort_of decls.now (sorts_in variables.now) (term_tree s.now)) sorts.Int && has_sort (sort_of decls.now (sorts_in variables.now) (term_tree t.now)) sorts.Int) }
+{
+    is_of(decls, variables, s, Sort::Int) && is_of(decls, variables, t, Sort::Int)
+}
+
+// Whether the terms are the same polynomial, within the bounds.
+#[tactic(auto, using(crate::proofs::Rings::is_ring, crate::proofs::Rings::not_ring))]
+fn ring_equation(alloc: Global, s: &Term, t: &Term) -> Result<bool, NoMemory>
+    ensures { IfOk result (λ b. b ≡ rules.is_ring_equation (term_tree s.now) (term_tree t.now)) }
+{
+    match ring(alloc, s, t) {
+        Ok(()) => Ok(true),
+        Err(NoRing::NoMemory) => Err(NoMemory),
+        Err(_) => Ok(false),
+    }
 }

@@ -322,6 +322,24 @@ fn computing(make: Make) -> Result<bool, NoMemory> {
     Ok(has(make.alloc, p, wanted))
 }
 
+// x + 1 = 1 + x for every x
+fn other_order(make: Make) -> Result<bool, NoMemory> {
+    let left = make.sum(Term::Bound(0), Term::Int(1))?;
+    let right = make.sum(Term::Int(1), Term::Bound(0))?;
+    let p = make.generic(Proof::Ring(left, right))?;
+    let left = make.sum(Term::Bound(0), Term::Int(1))?;
+    let right = make.sum(Term::Int(1), Term::Bound(0))?;
+    let wanted = make.all(make.equal(left, right)?)?;
+    Ok(has(make.alloc, p, wanted))
+}
+
+// 0 + 0 = 0
+fn zero_twice(make: Make) -> Result<bool, NoMemory> {
+    let p = Proof::Ring(make.sum(Term::Int(0), Term::Int(0))?, Term::Int(0));
+    let wanted = make.equal(make.sum(Term::Int(0), Term::Int(0))?, Term::Int(0))?;
+    Ok(has(make.alloc, p, wanted))
+}
+
 #[test]
 fn gives_formulas(rt: HostRuntime) -> Result<(), Fail> {
     let make = Make { alloc: rt.alloc() };
@@ -336,6 +354,8 @@ fn gives_formulas(rt: HostRuntime) -> Result<(), Fail> {
     assert!(rt; other_way(make)?);
     assert!(rt; induction(make)?);
     assert!(rt; computing(make)?);
+    assert!(rt; other_order(make)?);
+    assert!(rt; zero_twice(make)?);
     assert!(rt; has(make.alloc, Proof::Axiom(18), yes()));
     Ok(())
 }
@@ -355,6 +375,20 @@ fn bad_leaves(make: Make) -> Result<bool, NoMemory> {
         && place(alloc, Proof::Compute(Term::Int(7))) == Some(0)
         && place(alloc, Proof::Compute(Term::Truth(false))) == Some(0)
         && place(alloc, Proof::Hole(0)) == Some(0))
+}
+
+fn bad_rings(make: Make) -> Result<bool, NoMemory> {
+    let alloc = make.alloc;
+    Ok(place(alloc, Proof::Ring(Term::Int(0), Term::Int(1))) == Some(0)
+        && place(alloc, Proof::Ring(Term::Truth(true), Term::Int(0))) == Some(0)
+        && place(alloc, Proof::Ring(Term::Int(0), Term::Truth(false))) == Some(0))
+}
+
+// x + 1 and x are other polynomials. The axiom before them has the place 0.
+fn other_polynomial(make: Make) -> Result<Option<u32>, NoMemory> {
+    let p = Proof::Ring(make.sum(Term::Bound(0), Term::Int(1))?, Term::Bound(0));
+    let p = make.generic(make.pair(Proof::Axiom(18), p)?)?;
+    Ok(place(make.alloc, p))
 }
 
 // The part of a lambda over no formula is passed over, also where it has a fault.
@@ -466,6 +500,8 @@ fn rewrites_bad(make: Make) -> Result<Option<u32>, NoMemory> {
 fn finds_places(rt: HostRuntime) -> Result<(), Fail> {
     let make = Make { alloc: rt.alloc() };
     assert!(rt; bad_leaves(make)?);
+    assert!(rt; bad_rings(make)?);
+    assert_eq!(rt; other_polynomial(make)?, Some(1));
     assert_eq!(rt; bad_lambda(make)?, Some(3));
     assert_eq!(rt; other_argument(make)?, Some(4));
     assert_eq!(rt; applies_no_implication(make)?, Some(2));
