@@ -1,5 +1,5 @@
 -- The computed test of a ring equation tells whether it is one: only the products that occur have totals other than 0.
-use Rattle.std.proofs.Common.{◌≡◌, ◌⊎◌, inl, inr, ⊎_elim, ◌+◌, ◌^◌, ◌<◌, ◌≤◌, nat_lt, nat_le, pos, ◌+ℤ◌, Bool, true, false, ◌&&◌, if◌then◌else◌, [], ◌∷◌, refl, sym, subst, ◌∙◌, arith}
+use Rattle.std.proofs.Common.{◌≡◌, ◌⊎◌, inl, inr, ⊎_elim, ◌+◌, ◌^◌, nat_lt, nat_le, pos, ◌+ℤ◌, Bool, true, false, ◌&&◌, if◌then◌else◌, [], ◌∷◌, refl, sym, subst, ◌∙◌}
 use Rattle.std.proofs.lemmas.Bool.{and_parts, and_from, ltb-true, leb-true, lt-ltb, le-leb}
 use Rattle.sorted_terms.specs.Tree.{TermTree}
 use Rattle.sorted_terms.specs.Values.{same_integer}
