@@ -14,4 +14,3 @@ same_either_way a b = by (same_formula a b) (same_formula b a) refl refl where
   by false false e f = refl
   by true false e f = absurd (apart (sym (subst (λ x. same_formula b x ≡ false) (formula_is a b e) f) ∙ formula_same b))
   by false true e f = absurd (apart (sym (subst (λ x. same_formula a x ≡ false) (formula_is b a f) e) ∙ formula_same a))
-

@@ -41,7 +41,11 @@ pub fn instance_of(alloc: Global, a: &Formula, t: &Term) -> Result<Option<Formul
 }
 
 /// The same, as a found formula.
-pub fn built_instance<'f>(alloc: Global, a: &Formula, t: &Term) -> Result<Option<Found<'f>>, NoMemory>
+pub fn built_instance<'f>(
+    alloc: Global,
+    a: &Formula,
+    t: &Term,
+) -> Result<Option<Found<'f>>, NoMemory>
     requires { fits (instance (formula_tree a.now) (term_tree t.now) 0) ≡ true → HasIndicesBelow (2 ^ 32) (instance (formula_tree a.now) (term_tree t.now) 0) }
     ensures { IfOk result (λ o. option_map found_tree o ≡ fitting (Some (instance (formula_tree a.now) (term_tree t.now) 0))) }
 {
@@ -52,7 +56,11 @@ pub fn built_instance<'f>(alloc: Global, a: &Formula, t: &Term) -> Result<Option
 }
 
 /// The same of a found formula.
-pub fn found_instance<'f>(alloc: Global, a: Found<'f>, t: &Term) -> Result<Option<Found<'f>>, NoMemory>
+pub fn found_instance<'f>(
+    alloc: Global,
+    a: Found<'f>,
+    t: &Term,
+) -> Result<Option<Found<'f>>, NoMemory>
     requires { fits (instance (found_tree a) (term_tree t.now) 0) ≡ true → HasIndicesBelow (2 ^ 32) (instance (found_tree a) (term_tree t.now) 0) }
     ensures { IfOk result (λ o. option_map found_tree o ≡ fitting (Some (instance (found_tree a.entry) (term_tree t.now) 0))) }
 {

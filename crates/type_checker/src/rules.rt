@@ -249,13 +249,7 @@ fn denied(f: Found) -> Option<Found>
     ensures { option_map found_tree result ≡ rules.denied_of (found_tree f.entry) }
 {
     match opened(f) {
-        Head::Imp(a, b) => {
-            if is_bottom(&b) {
-                Some(a)
-            } else {
-                None
-            }
-        }
+        Head::Imp(a, b) => { if is_bottom(&b) { Some(a) } else { None } }
         _ => None,
     }
 }
@@ -265,13 +259,7 @@ fn applied<'f>(f: Found<'f>, g: &Found<'f>) -> Option<Found<'f>>
     ensures { option_map found_tree result ≡ rules.applied (found_tree f.entry) (found_tree g.now) }
 {
     match opened(f) {
-        Head::Imp(a, b) => {
-            if same_found(&a, g) {
-                Some(b)
-            } else {
-                None
-            }
-        }
+        Head::Imp(a, b) => { if same_found(&a, g) { Some(b) } else { None } }
         _ => None,
     }
 }

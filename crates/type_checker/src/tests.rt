@@ -212,7 +212,10 @@ fn peirce(make: Make) -> Result<bool, NoMemory> {
     let p = make.app(Proof::Hyp(1), Proof::Hyp(0))?;
     let p = make.lam(a, make.absurd(Formula::Holds(Term::Var(1)), p)?)?;
     let p = make.app(Proof::Hyp(0), make.app(Proof::Hyp(1), p)?)?;
-    let p = make.lam(make.implies(Formula::Holds(Term::Var(0)), Formula::Bottom)?, p)?;
+    let p = make.lam(
+        make.implies(Formula::Holds(Term::Var(0)), Formula::Bottom)?,
+        p,
+    )?;
     let p = make.lam(premise_of_peirce(make)?, make.stable(p)?)?;
     let wanted = make.implies(premise_of_peirce(make)?, Formula::Holds(Term::Var(0)))?;
     Ok(has(make.alloc, p, wanted))
@@ -266,7 +269,10 @@ fn exchange(make: Make) -> Result<bool, NoMemory> {
 fn other_side(make: Make) -> Result<bool, NoMemory> {
     let left = make.right_of(no(), Proof::Hyp(0))?;
     let right = make.left_of(yes(), Proof::Hyp(0))?;
-    let p = make.lam(make.or(yes(), no())?, make.cases(Proof::Hyp(0), left, right)?)?;
+    let p = make.lam(
+        make.or(yes(), no())?,
+        make.cases(Proof::Hyp(0), left, right)?,
+    )?;
     let wanted = make.implies(make.or(yes(), no())?, make.or(no(), yes())?)?;
     Ok(has(make.alloc, p, wanted))
 }
@@ -347,14 +353,16 @@ fn under(make: Make, a: Formula, p: Proof) -> Result<Option<u32>, NoMemory> {
 
 fn bad_leaves(make: Make) -> Result<bool, NoMemory> {
     let alloc = make.alloc;
-    Ok(place(alloc, Proof::Hyp(0)) == Some(0)
-        && place(alloc, Proof::Refl(Term::Truth(true))) == Some(0)
-        && place(alloc, Proof::Axiom(0)) == Some(0)
-        && place(alloc, Proof::Axiom(27)) == Some(0)
-        && place(alloc, Proof::Induct(bad())) == Some(0)
-        && place(alloc, Proof::Compute(Term::Int(7))) == Some(0)
-        && place(alloc, Proof::Compute(Term::Truth(false))) == Some(0)
-        && place(alloc, Proof::Hole(0)) == Some(0))
+    Ok(
+        place(alloc, Proof::Hyp(0)) == Some(0)
+            && place(alloc, Proof::Refl(Term::Truth(true))) == Some(0)
+            && place(alloc, Proof::Axiom(0)) == Some(0)
+            && place(alloc, Proof::Axiom(27)) == Some(0)
+            && place(alloc, Proof::Induct(bad())) == Some(0)
+            && place(alloc, Proof::Compute(Term::Int(7))) == Some(0)
+            && place(alloc, Proof::Compute(Term::Truth(false))) == Some(0)
+            && place(alloc, Proof::Hole(0)) == Some(0),
+    )
 }
 
 // The part of a lambda over no formula is passed over, also where it has a fault.
@@ -377,7 +385,11 @@ fn fault_on_the_right(make: Make) -> Result<Option<u32>, NoMemory> {
 }
 
 fn other_sort(make: Make) -> Result<Option<u32>, NoMemory> {
-    under(make, above_each(make)?, make.inst(Proof::Hyp(0), Term::Truth(true))?)
+    under(
+        make,
+        above_each(make)?,
+        make.inst(Proof::Hyp(0), Term::Truth(true))?,
+    )
 }
 
 fn no_universal(make: Make) -> Result<Option<u32>, NoMemory> {
@@ -414,7 +426,10 @@ fn no_disjunction(make: Make) -> Result<Option<u32>, NoMemory> {
 
 fn other_instance(make: Make) -> Result<Option<u32>, NoMemory> {
     let a = make.equal(Term::Bound(0), Term::Bound(0))?;
-    Ok(place(make.alloc, make.pack(a, Term::Int(3), Proof::Refl(Term::Int(4)))?))
+    Ok(place(
+        make.alloc,
+        make.pack(a, Term::Int(3), Proof::Refl(Term::Int(4)))?,
+    ))
 }
 
 fn packs_other_sort(make: Make) -> Result<Option<u32>, NoMemory> {
@@ -423,7 +438,10 @@ fn packs_other_sort(make: Make) -> Result<Option<u32>, NoMemory> {
 }
 
 fn packs_bad(make: Make) -> Result<Option<u32>, NoMemory> {
-    Ok(place(make.alloc, make.pack(bad(), Term::Int(3), Proof::Axiom(18))?))
+    Ok(place(
+        make.alloc,
+        make.pack(bad(), Term::Int(3), Proof::Axiom(18))?,
+    ))
 }
 
 // (ex x. x = 0) gives no x = 0 outside.
@@ -443,7 +461,11 @@ fn bad_absurd(make: Make) -> Result<bool, NoMemory> {
 }
 
 fn denied_once(make: Make) -> Result<Option<u32>, NoMemory> {
-    under(make, make.implies(yes(), Formula::Bottom)?, make.stable(Proof::Hyp(0))?)
+    under(
+        make,
+        make.implies(yes(), Formula::Bottom)?,
+        make.stable(Proof::Hyp(0))?,
+    )
 }
 
 fn no_equation(make: Make) -> Result<Option<u32>, NoMemory> {

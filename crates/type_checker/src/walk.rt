@@ -214,12 +214,7 @@ fn lambda<'f>(
 
 // The universal formula over what was proved of a new variable.
 #[inline(never)]
-fn general<'f>(
-    alloc: Global,
-    sort: Sort,
-    a: Found<'f>,
-    n: u32,
-) -> Result<(Found<'f>, u32), Untyped>
+fn general<'f>(alloc: Global, sort: Sort, a: Found<'f>, n: u32) -> Result<(Found<'f>, u32), Untyped>
     requires { n + 1 < 2 ^ 32 }
     ensures gives { Gives result (found (Some (quantified for_all sort (found_tree a.entry))) n) }
     ensures next { IfOk result (λ r. r.1 ≡ n + 1) }

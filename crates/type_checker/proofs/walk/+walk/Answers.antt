@@ -41,12 +41,16 @@ walk-requires-in-Gen t c =
     let part : nodes c.deref-in-Gen.result.now ≡ nodes c.in-Gen.part.value = ap nodes c.deref-in-Gen.ensures in (
       omega (arith, c.decreases, whole, part),
       (
-      raised_assumable c.args.decls.now c.in-Gen.sort (sorts_in c.args.variables.now) (hypotheses_under c.args.scope.now) c.requires.assumed,
-      (
-      omega (arith, c.requires.over),
-      (
-      omega (arith, whole, part, c.requires.few),
-      omega (arith, whole, part, c.requires.numbers)))))
+        raised_assumable c.args.decls.now c.in-Gen.sort (sorts_in c.args.variables.now) (hypotheses_under c.args.scope.now) c.requires.assumed,
+        (
+          omega (arith, c.requires.over),
+          (
+            omega (arith, whole, part, c.requires.few),
+            omega (arith, whole, part, c.requires.numbers),
+          ),
+        ),
+      ),
+    )
 
 pub walk-requires-in-Cases-2 : goal.walk-requires-in-Cases-2
 walk-requires-in-Cases-2 t c =
@@ -55,13 +59,20 @@ walk-requires-in-Cases-2 t c =
     let next : nodes c.deref-in-Cases-2.result.now ≡ nodes c.in-Cases.left.value = ap nodes c.deref-in-Cases-2.ensures in (
       omega (arith, c.decreases, whole, next),
       (
-      (left c.args.decls.now (sorts_in c.args.variables.now) (hypotheses_under c.args.scope.now) (proof_tree c.deref-in-Cases.result.now) c.args.n (found_tree c.in_ok-f-in-Cases.f) c.in_ok-f-in-Cases.n c.requires.assumed c.in_ok-f-in-Cases.ensures.gives
-      (found_tree c.in-Some.a) (found_tree c.in-Some.b) c.in-Some.ensures.some, c.requires.assumed),
-      (
-      c.requires.over,
-      (
-      omega (arith, whole, next, c.requires.few),
-      omega (arith, whole, part, next, c.in_ok-f-in-Cases.ensures.next, c.requires.numbers)))))
+        (
+          left c.args.decls.now (sorts_in c.args.variables.now) (hypotheses_under c.args.scope.now) (proof_tree c.deref-in-Cases.result.now) c.args.n (found_tree c.in_ok-f-in-Cases.f) c.in_ok-f-in-Cases.n c.requires.assumed c.in_ok-f-in-Cases.ensures.gives
+              (found_tree c.in-Some.a) (found_tree c.in-Some.b) c.in-Some.ensures.some,
+          c.requires.assumed,
+        ),
+        (
+          c.requires.over,
+          (
+            omega (arith, whole, next, c.requires.few),
+            omega (arith, whole, part, next, c.in_ok-f-in-Cases.ensures.next, c.requires.numbers),
+          ),
+        ),
+      ),
+    )
 
 pub walk-requires-in-Cases-3 : goal.walk-requires-in-Cases-3
 walk-requires-in-Cases-3 t c =
@@ -71,13 +82,20 @@ walk-requires-in-Cases-3 t c =
     let last : nodes c.deref-in-Cases-3.result.now ≡ nodes c.in-Cases.right.value = ap nodes c.deref-in-Cases-3.ensures in (
       omega (arith, c.decreases, whole, last),
       (
-      (right c.args.decls.now (sorts_in c.args.variables.now) (hypotheses_under c.args.scope.now) (proof_tree c.deref-in-Cases.result.now) c.args.n (found_tree c.in_ok-f-in-Cases.f) c.in_ok-f-in-Cases.n c.requires.assumed c.in_ok-f-in-Cases.ensures.gives
-      (found_tree c.in-Some.a) (found_tree c.in-Some.b) c.in-Some.ensures.some, c.requires.assumed),
-      (
-      c.requires.over,
-      (
-      omega (arith, whole, last, c.requires.few),
-      omega (arith, whole, part, next, last, c.in_ok-f-in-Cases.ensures.next, c.in_ok-c-in-Cases.ensures.next, c.requires.numbers)))))
+        (
+          right c.args.decls.now (sorts_in c.args.variables.now) (hypotheses_under c.args.scope.now) (proof_tree c.deref-in-Cases.result.now) c.args.n (found_tree c.in_ok-f-in-Cases.f) c.in_ok-f-in-Cases.n c.requires.assumed c.in_ok-f-in-Cases.ensures.gives
+              (found_tree c.in-Some.a) (found_tree c.in-Some.b) c.in-Some.ensures.some,
+          c.requires.assumed,
+        ),
+        (
+          c.requires.over,
+          (
+            omega (arith, whole, last, c.requires.few),
+            omega (arith, whole, part, next, last, c.in_ok-f-in-Cases.ensures.next, c.in_ok-c-in-Cases.ensures.next, c.requires.numbers),
+          ),
+        ),
+      ),
+    )
 
 pub cases-requires-clause-fitting : goal.cases-requires-clause-fitting
 cases-requires-clause-fitting t c =
@@ -94,13 +112,17 @@ walk-requires-in-Unpack-2 t c =
     let next : nodes c.deref-in-Unpack-2.result.now ≡ nodes c.in-Unpack.rest.value = ap nodes c.deref-in-Unpack-2.ensures in (
       omega (arith, c.decreases, whole, next),
       (
-      under c.args.decls.now (sorts_in c.args.variables.now) (hypotheses_under c.args.scope.now) (proof_tree c.deref-in-Unpack.result.now) c.args.n (found_tree c.in_ok-f-in-Unpack.f) c.in_ok-f-in-Unpack.n c.requires.assumed c.in_ok-f-in-Unpack.ensures.gives
-      c.in-Some-body.sort (found_tree c.in-Some-body.a) c.in-Some-body.ensures.some,
-      (
-      omega (arith, c.requires.over),
-      (
-      omega (arith, whole, next, c.requires.few),
-      omega (arith, whole, part, next, c.in_ok-f-in-Unpack.ensures.next, c.requires.numbers)))))
+        under c.args.decls.now (sorts_in c.args.variables.now) (hypotheses_under c.args.scope.now) (proof_tree c.deref-in-Unpack.result.now) c.args.n (found_tree c.in_ok-f-in-Unpack.f) c.in_ok-f-in-Unpack.n c.requires.assumed c.in_ok-f-in-Unpack.ensures.gives
+            c.in-Some-body.sort (found_tree c.in-Some-body.a) c.in-Some-body.ensures.some,
+        (
+          omega (arith, c.requires.over),
+          (
+            omega (arith, whole, next, c.requires.few),
+            omega (arith, whole, part, next, c.in_ok-f-in-Unpack.ensures.next, c.requires.numbers),
+          ),
+        ),
+      ),
+    )
 
 pub unpacked-requires-clause-fitting : goal.unpacked-requires-clause-fitting
 unpacked-requires-clause-fitting t c =
