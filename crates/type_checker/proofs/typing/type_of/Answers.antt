@@ -21,4 +21,4 @@ returns-in_err-found-clause-place c =
 pub returns-clause-ok : goal.returns-clause-ok
 returns-clause-ok c =
     let given = has c.args.decls.now (variables_of c.args.context.now) (hypotheses_of c.args.context.now) (proof_tree c.args.p.now) 0 (found_tree c.in_ok-found.found) c.in_ok-found.field-0-1 c.in_ok-found.ensures.gives in
-    subst (λ a. Has c.args.decls.now (variables_of c.args.context.now) (hypotheses_of c.args.context.now) (proof_tree c.args.p.now) a) (sym c.owned.ensures) given.0
+    subst (λ a. Has c.args.decls.now (variables_of c.args.context.now) (hypotheses_of c.args.context.now) (proof_tree c.args.p.now) a) (sym c.in_ok-owned.ensures) given.0
