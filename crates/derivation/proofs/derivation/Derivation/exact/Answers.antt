@@ -20,8 +20,8 @@ returns-then-not-is_within-clause-refused c = λ _ next s.
     let low : c.len.result + c.depth.result ≤ 2048 = omega (arith, c.depth.ensures, c.len.ensures, hypotheses_count c.in-Proving.context, limits.1) in
     absurd (cc (sym c.if-not-is_within.true ∙ c.is_within.ensures.1 (few, low)))
 
-pub shows-requires-assumed : goal.shows-requires-assumed
-shows-requires-assumed c = assumed_kept (derivation_tree c.args.self.now) (hypotheses_of c.in-Proving.context) (formula_tree c.in-Proving.goal) c.requires.kept.derived (ap progress_tree c.in-Proving.is)
+pub shows-requires-clause-assumed : goal.shows-requires-clause-assumed
+shows-requires-clause-assumed c = assumed_kept (derivation_tree c.args.self.now) (hypotheses_of c.in-Proving.context) (formula_tree c.in-Proving.goal) c.requires.kept.derived (ap progress_tree c.in-Proving.is)
 
 pub returns-clause-taken : goal.returns-clause-taken
 returns-clause-taken c =
