@@ -8,7 +8,7 @@ use Rattle.ck_base.specs.Names.{AreNames}
 use Rattle.sorted_terms.specs.Tree.{TermTree, name, index, integer, boolean, unary, binary}
 use Rattle.formulas.specs.Tree.{FormulaTree, bottom, holds, joined, quantified, implies, and_also, or_else}
 use Rattle.formulas.specs.Sorts.{well_sorted, size}
-use Rattle.proof_terms.specs.Tree.{ProofTree, hypothesis, lambda, application}
+use Rattle.proof_terms.specs.Tree.{ProofTree, hypothesis, lambda, application, general, special, pair, first, second, left_of, right_of, by_cases, pack, unpack, from_bottom, stable, rewriting}
 use Rattle.proof_terms.specs.Size.{proof_size}
 use Rattle.type_checker.specs.Place.{proof_nodes}
 use Rattle.cert_codec.specs.Tree.{NodeTree, skip, CertificateTree}
@@ -22,11 +22,23 @@ and_parts true b e = (refl, e)
 and_parts false b e = absurd (cc)
 
 -- a proof has no more proof nodes than nodes
-pub nodes_within_size : (p : ProofTree) → IsBuiltProof p → proof_nodes p ≤ proof_size p
-nodes_within_size (hypothesis k) h = omega arith
-nodes_within_size (lambda a p) h = omega (arith, nodes_within_size p h.1)
-nodes_within_size (application p q) h = omega (arith, nodes_within_size p h.0, nodes_within_size q h.1)
-nodes_within_size p h = absurd h
+pub nodes_within_size : (p : ProofTree) → proof_nodes p ≤ proof_size p
+nodes_within_size (lambda a p) = omega (arith, nodes_within_size p)
+nodes_within_size (application p q) = omega (arith, nodes_within_size p, nodes_within_size q)
+nodes_within_size (general s p) = omega (arith, nodes_within_size p)
+nodes_within_size (special p t) = omega (arith, nodes_within_size p)
+nodes_within_size (pair p q) = omega (arith, nodes_within_size p, nodes_within_size q)
+nodes_within_size (first p) = omega (arith, nodes_within_size p)
+nodes_within_size (second p) = omega (arith, nodes_within_size p)
+nodes_within_size (left_of b p) = omega (arith, nodes_within_size p)
+nodes_within_size (right_of a p) = omega (arith, nodes_within_size p)
+nodes_within_size (by_cases p q r) = omega (arith, nodes_within_size p, nodes_within_size q, nodes_within_size r)
+nodes_within_size (pack s a t p) = omega (arith, nodes_within_size p)
+nodes_within_size (unpack p q) = omega (arith, nodes_within_size p, nodes_within_size q)
+nodes_within_size (from_bottom a p) = omega (arith, nodes_within_size p)
+nodes_within_size (stable p) = omega (arith, nodes_within_size p)
+nodes_within_size (rewriting a p q) = omega (arith, nodes_within_size p, nodes_within_size q)
+nodes_within_size p = omega arith
 
 pub sorted_formula : (names : List Decl) (variables : List Sort) (a : FormulaTree) → is_built_formula a ≡ true → well_sorted names variables a ≡ true
 sorted_formula names variables bottom e = refl

@@ -12,6 +12,8 @@ mod check;
 mod derive;
 pub mod laws;
 mod printing;
+#[cfg(test)]
+mod proof_tests;
 mod reading;
 mod session;
 mod status;
