@@ -203,6 +203,8 @@ fn implications(rt: HostRuntime) -> Result<(), Fail> {
             b"((a => b) => a) => a"
         )?
     );
+    // A hypothesis that is not there.
+    assert!(rt; answer(alloc, Ask::Formula, 1, b"#0")?.as_bytes() == b"place 0");
     assert!(rt; lacks(alloc, b"lam(7, #0)", 1)?);
     // The part of a lambda over no formula is passed over.
     assert!(rt; lacks(alloc, b"lam(7, first(#0))", 2)?);
@@ -446,6 +448,19 @@ fn joined(alloc: Global, parts: &[&[u8]]) -> Result<Text, NoMemory> {
         text.append(part)?;
     }
     Ok(text)
+}
+
+/// The formula of 255 lambdas has 256 levels, the most that fit. That of the lambda around them, whose number is
+/// 256, does not fit.
+#[test]
+fn deep_formulas_of_proofs(rt: HostRuntime) -> Result<(), Fail> {
+    let alloc = rt.alloc();
+    let text = nested(alloc, 255, b"lam(bottom, ", b"#254", b")")?;
+    let formula = nested(alloc, 254, b"bottom => ", b"~bottom", b"")?;
+    assert!(rt; has(alloc, text.as_bytes(), formula.as_bytes())?);
+    let text = nested(alloc, 2_047, b"lam(bottom, ", b"#2046", b")")?;
+    assert!(rt; lacks(alloc, text.as_bytes(), 256)?);
+    Ok(())
 }
 
 /// 2,048 levels are read, typed, copied, printed, filled and dropped within a stack of 8 MiB, and no more are read.

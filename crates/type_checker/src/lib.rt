@@ -22,6 +22,3 @@ mod walk;
 
 pub use typing::type_of;
 pub use untyped::Untyped;
-
-#[cfg(test)]
-mod tests;
