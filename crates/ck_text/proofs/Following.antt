@@ -28,6 +28,13 @@ pub map_first : {A B : Type 0} (f : A → B) (o p : Option A) → option_map f (
 map_first f (Some a) p = refl
 map_first f None p = refl
 
+-- what stands behind the first that is left
+pub drop_next : (k : ℕ) (all : List Placed) (p : Placed) (placed : List Placed) → drop k all ≡ p ∷ placed → drop (suc k) all ≡ placed
+drop_next zero [] p placed e = absurd (cc)
+drop_next zero (q ∷ all) p placed e = cc
+drop_next (suc k) [] p placed e = absurd (cc)
+drop_next (suc k) (q ∷ all) p placed e = drop_next k all p placed e
+
 -- # How many tokens were read
 
 abbrev pub counted : List texts.Frame → ℕ
@@ -164,12 +171,6 @@ module _ (most : ℕ) (asked : Bool) (scope : Bindings) where
   here_place f (texts.wanting stack) t k left e =
       word_place f (scope_under most asked scope stack) t k ∙ ap₂ (λ s l. unknown_word s t l) (sym (scope_shown most asked scope stack)) e
   here_place f st t k left e = refl
-
-  pub drop_next : (k : ℕ) (all : List Placed) (p : Placed) (placed : List Placed) → drop k all ≡ p ∷ placed → drop (suc k) all ≡ placed
-  drop_next zero [] p placed e = absurd (cc)
-  drop_next zero (q ∷ all) p placed e = cc
-  drop_next (suc k) [] p placed e = absurd (cc)
-  drop_next (suc k) (q ∷ all) p placed e = drop_next k all p placed e
 
   -- # Runs
 

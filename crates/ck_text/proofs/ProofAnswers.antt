@@ -1,5 +1,5 @@
 -- What the reader of proofs over what it keeps answers is what reading a text as a proof comes to.
-use Rattle.std.proofs.Common.{◌≡◌, ℕ, ◌≤◌, Bool, true, List, [], length, take, drop, refl, sym, subst, ap, ◌∙◌, arith, Option, Some, None, Ok, Err}
+use Rattle.std.proofs.Common.{◌≡◌, ℕ, ◌≤◌, Bool, List, [], length, take, drop, refl, sym, subst, ap, ◌∙◌, arith, Option, Some, None, Ok, Err}
 use Rattle.std.specs.Prelude.{is_none}
 use Rattle.std.specs.declared.result.Result.{Result}
 use Rattle.std.specs.Option.{option_map, is_some}

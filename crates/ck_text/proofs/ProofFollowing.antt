@@ -1,7 +1,7 @@
 -- The reader of proofs over what it keeps follows the reader over texts, with the first term or formula that is too deep and the first name or `#k` that means nothing.
-use Rattle.std.proofs.Common.{◌≡◌, ℕ, zero, suc, ◌+◌, ◌≤◌, ◌<◌, ◌^◌, min, Bool, true, false, List, [], ◌∷◌, ◌++◌, length, drop, refl, sym, subst, ap, ap₂, ◌∙◌, ⊎_elim, arith, Option, Some, None, Ok, Err, nat_le, nat_lt, if◌then◌else◌}
+use Rattle.std.proofs.Common.{◌≡◌, ℕ, suc, ◌+◌, ◌≤◌, ◌<◌, ◌^◌, min, Bool, true, false, List, [], ◌∷◌, ◌++◌, length, drop, refl, sym, ap, ap₂, ◌∙◌, ⊎_elim, arith, Option, Some, None, Ok, Err, nat_le, nat_lt, if◌then◌else◌}
 use Rattle.std.specs.Option.{option_map, is_some}
-use Rattle.std.proofs.lemmas.Bool.{leb-true, leb-false, le-leb, lt-leb, lt-ltb, le-ltb, cases_lt}
+use Rattle.std.proofs.lemmas.Bool.{le-leb, lt-leb, lt-ltb, le-ltb, cases_lt}
 use Rattle.std.proofs.lemmas.List.{length-append}
 use Rattle.ck_base.specs.declared.decl.Sort.{Sort}
 use Rattle.ck_text.specs.declared.head.Head.{Head}
@@ -12,14 +12,14 @@ use Rattle.ck_text.specs.Texts.{Text, truth, falsity, name, number, led, joined,
 use Rattle.ck_text.specs.Machine as inner_texts
 use Rattle.ck_text.specs.Reading.{text_levels, scope_after, unknown_at, left_of}
 use Rattle.ck_text.specs.Items as expression
-use Rattle.ck_text.specs.ProofTexts.{Kind, a_sort, a_number, a_term, a_formula, a_proof, kinds, head_word, ProofText, headed, Arguments, last, more, Argument, of_sort, of_number, of_expression, of_proof, proof_tokens, argument_tokens, ProofScope, grown, too_deep, deep_at, deep_among, deep_in, unknown_in_proof, unknown_among, unknown_in}
+use Rattle.ck_text.specs.ProofTexts.{Kind, a_sort, a_number, a_term, a_formula, a_proof, kinds, head_word, ProofText, headed, Arguments, last, more, Argument, of_sort, of_number, of_expression, of_proof, argument_tokens, ProofScope, too_deep, deep_at, deep_among, deep_in, unknown_in_proof, unknown_among, unknown_in}
 use Rattle.ck_text.specs.ProofMachine.{asks_term, gathered}
 use Rattle.ck_text.specs.ProofMachine as texts
-use Rattle.ck_text.specs.ProofItems.{State, scope_in, bindings_in, asked, wants_term, bindings, proof_scope, ended_deep, too_deep_at, deep_here, no_hypothesis, unknown_first, unknown_here, Whole, or_fault, after, run}
+use Rattle.ck_text.specs.ProofItems.{scope_in, bindings_in, asked, wants_term, bindings, ended_deep, too_deep_at, deep_here, no_hypothesis, unknown_first, unknown_here, Whole, or_fault, after, run}
 use Rattle.ck_text.proofs.Stacks as inner_stacks
 use Rattle.ck_text.proofs.Shown as inner
 use Rattle.ck_text.proofs.Following as following
-use Rattle.ck_text.proofs.Following.{first_none, first_assoc, map_first}
+use Rattle.ck_text.proofs.Following.{first_none, first_assoc, map_first, drop_next}
 use Rattle.ck_text.proofs.Outcomes.{asked_kept}
 use Rattle.ck_text.proofs.ProofTables.{IsProofKind, IsExpressionKind}
 use Rattle.ck_text.proofs.ProofStacks.{AreDone, Sits, Lasts, done_front, front, before}
@@ -114,12 +114,6 @@ ended_now : (most : ℕ) (asked : Bool) (scope : Bindings) (st : inner_texts.Sta
 ended_now most asked scope (inner_texts.having stack b) a t k e = refl
 ended_now most asked scope st a t k e = absurd (cc)
 
-drop_next : (k : ℕ) (all : List Placed) (p : Placed) (placed : List Placed) → drop k all ≡ p ∷ placed → drop (suc k) all ≡ placed
-drop_next zero [] p placed e = absurd (cc)
-drop_next zero (q ∷ all) p placed e = cc
-drop_next (suc k) [] p placed e = absurd (cc)
-drop_next (suc k) (q ∷ all) p placed e = drop_next k all p placed e
-
 module _ (most : ℕ) (outer : ProofScope) (limit proofs deep : ℕ) (holes : Bool) where
   module _ (at : ProofScope → ℕ → Kind → Argument → Option ℕ) (inside : List texts.Frame → inner_texts.State → Option ℕ) where
     -- in the arguments of the stack
@@ -176,9 +170,9 @@ module _ (most : ℕ) (outer : ProofScope) (limit proofs deep : ℕ) (holes : Bo
     module _ (among : ProofScope → ℕ → List Kind → Arguments → Option ℕ)
         (ends : (scope : ProofScope) (first : ℕ) (k : Kind) (a : Argument) → among scope first (k ∷ []) (last a) ≡ at scope first k a)
         (splits : (scope : ProofScope) (first : ℕ) (k : Kind) (ks : List Kind) (a : Argument) (others : Arguments)
-            → among scope first (k ∷ ks) (more a others) ≡ first_of (at scope first k a) (among scope (suc (first + length (argument_tokens a))) ks others))
+        → among scope first (k ∷ ks) (more a others) ≡ first_of (at scope first k a) (among scope (suc (first + length (argument_tokens a))) ks others))
         (proofs_are : (scope : ProofScope) (first : ℕ) (k : Kind) (h : Head) (arguments : Arguments) → IsProofKind k
-            → at scope first k (of_proof (headed h arguments)) ≡ among (scope_in (Some k) scope) (2 + first) (kinds h) arguments) where
+        → at scope first k (of_proof (headed h arguments)) ≡ among (scope_in (Some k) scope) (2 + first) (kinds h) arguments) where
       separated_found : (stack : List texts.Frame) (a : Argument) (t : Token) (next : texts.State) → Sits limit proofs deep holes stack → texts.separated stack a t ≡ Some next → found_state next ≡ found_top stack a
       separated_found (texts.calling g done k (l ∷ after) ∷ stack) a (token.mark marks.Comma) next h e =
           let same : texts.expecting (texts.calling g (a ∷ done) l after ∷ stack) ≡ next = cc in

@@ -1,8 +1,6 @@
 -- A proof within so many levels means a proof term of at most as many.
-use Rattle.std.proofs.Common.{◌≡◌, ℕ, zero, suc, ◌+◌, ◌≤◌, ◌<◌, max, Bool, true, false, List, [], ◌∷◌, arith, subst, Option, Some, None, if◌then◌else◌}
+use Rattle.std.proofs.Common.{◌≡◌, ℕ, zero, suc, ◌+◌, ◌≤◌, max, Bool, true, false, List, [], ◌∷◌, arith, subst, Option, Some, None, if◌then◌else◌}
 use Rattle.std.specs.Option.{option_map}
-use Rattle.formulas.specs.Tree.{FormulaTree}
-use Rattle.sorted_terms.specs.Tree.{TermTree}
 use Rattle.proof_terms.specs.Tree.{ProofTree}
 use Rattle.proof_terms.specs.Tree as proof
 use Rattle.proof_terms.specs.Size.{proof_depth}

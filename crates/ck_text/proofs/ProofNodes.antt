@@ -1,5 +1,5 @@
 -- A proof term has at most twice as many nodes as its text has tokens.
-use Rattle.std.proofs.Common.{◌≡◌, ℕ, suc, ◌+◌, ◌*◌, ◌≤◌, Bool, true, false, List, [], ◌∷◌, ◌++◌, length, arith, refl, subst, Option, Some, None, if◌then◌else◌}
+use Rattle.std.proofs.Common.{◌≡◌, ℕ, ◌+◌, ◌*◌, ◌≤◌, Bool, true, false, List, [], ◌∷◌, length, arith, refl, subst, Option, Some, None, if◌then◌else◌}
 use Rattle.std.specs.Option.{option_map}
 use Rattle.std.proofs.lemmas.List.{length-append}
 use Rattle.formulas.specs.Sorts.{size}
@@ -10,7 +10,7 @@ use Rattle.ck_text.specs.declared.head.Head.{Head}
 use Rattle.ck_text.specs.declared.head.Head.TheVariants as heads
 use Rattle.ck_text.specs.declared.token.Mark.TheVariants as marks
 use Rattle.ck_text.specs.Tokens as token
-use Rattle.ck_text.specs.Texts.{Text, tokens, Bindings, term_of, formula_of}
+use Rattle.ck_text.specs.Texts.{tokens, term_of, formula_of}
 use Rattle.ck_text.specs.ProofTexts.{Kind, a_sort, a_number, a_term, a_formula, a_proof, kinds, ProofText, numbered, open_hole, headed, Arguments, last, more, Argument, of_sort, of_number, of_expression, of_proof, proof_tokens, arguments_tokens, argument_tokens, ProofScope, grown, expression_scope, Part, sort, number, term, formula, proof_term, built, built_of, parts_of, proof_of, meanings_of, part_of}
 use Rattle.ck_text.specs.ProofReadingLaws.{ProofNodes}
 use Rattle.ck_text.proofs.Nodes.{HasMost, term_most, formula_most}

@@ -74,7 +74,7 @@ mutual
   argument_less (of_expression a) m n h = omega arith
 
 module _ (limit proofs most : ℕ) (holes : Bool) (scope : ProofScope) (bytes : List ℕ) where
-  abbrev pub ts : List Token
+  abbrev ts : List Token
   ts = tokens_of bytes
 
   abbrev pub IsOutcome : Result ProofTree Fault → Type 0
@@ -83,7 +83,7 @@ module _ (limit proofs most : ℕ) (holes : Bool) (scope : ProofScope) (bytes : 
   abbrev pub IsWritten : ProofText → Type 0
   IsWritten p = IsProofWritten limit proofs holes bytes p
 
-  abbrev pub Stops : ℕ → Type 0
+  abbrev Stops : ℕ → Type 0
   Stops k = ProofStopsAt limit proofs holes (take k ts) (drop k ts)
 
   -- # A proof

@@ -7,13 +7,13 @@ use Rattle.ck_text.specs.declared.head.Head.{Head}
 use Rattle.ck_text.specs.declared.token.Mark.TheVariants as marks
 use Rattle.ck_text.specs.Tokens.{Token, Placed}
 use Rattle.ck_text.specs.Tokens as token
-use Rattle.ck_text.specs.Texts.{Text, tokens, Bindings}
+use Rattle.ck_text.specs.Texts.{Text, Bindings}
 use Rattle.ck_text.specs.Machine as inner_texts
 use Rattle.ck_text.specs.Items as expression
-use Rattle.ck_text.specs.ProofTexts.{Kind, a_sort, a_number, a_term, a_formula, a_proof, kinds, ProofText, headed, Arguments, last, more, Argument, of_sort, of_number, of_expression, of_proof, argument_tokens, ProofScope, grown, Part, proof_term, built}
+use Rattle.ck_text.specs.ProofTexts.{Kind, a_sort, a_number, a_term, a_formula, a_proof, kinds, Arguments, last, more, Argument, of_sort, of_number, of_expression, of_proof, argument_tokens, ProofScope, grown, Part, proof_term, built}
 use Rattle.ck_text.specs.ProofMachine.{asks_term, head_of, gathered}
 use Rattle.ck_text.specs.ProofMachine as texts
-use Rattle.ck_text.specs.ProofItems.{Frame, State, expecting, marked, opening, within, complete, next_kind, asked, scope_in, proof_scope, bindings_in, bindings, wants_term, expression_part, kept_proof, marked_tree, guarded, begins_proof, begins_expression, begins_sort, begins_number, begins, entered, next_argument, closes, separated, ends, inside, step_inside, opens, numbers_mark, step, finished}
+use Rattle.ck_text.specs.ProofItems.{Frame, State, expecting, marked, opening, within, complete, next_kind, asked, scope_in, proof_scope, bindings_in, bindings, wants_term, kept_proof, marked_tree, guarded, begins_proof, begins_sort, begins_number, begins, entered, next_argument, closes, separated, ends, inside, step_inside, opens, numbers_mark, step, finished}
 use Rattle.ck_text.proofs.Shown as inner
 use Rattle.ck_text.proofs.Following as inner_following
 use Rattle.ck_text.proofs.ProofTables.{has_argument}
