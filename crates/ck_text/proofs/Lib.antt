@@ -35,3 +35,9 @@ pub mod ProofRereading
 pub mod ProofExactness
 pub mod ProofMeanings
 pub mod ProofOutcomes
+pub mod ProofLevels
+pub mod ProofNodes
+pub mod ProofKept
+pub mod ProofShown
+pub mod ProofFollowing
+pub mod ProofAnswers

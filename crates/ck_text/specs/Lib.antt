@@ -13,3 +13,4 @@ pub mod ProofMachine
 pub mod ProofLaws
 pub mod ProofReading
 pub mod ProofReadingLaws
+pub mod ProofItems
