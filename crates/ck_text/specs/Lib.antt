@@ -13,3 +13,6 @@ pub mod ProofMachine
 pub mod ProofLaws
 pub mod ProofReading
 pub mod ProofReadingLaws
+pub mod ProofPrinting
+pub mod ProofPrinters
+pub mod ProofPrintingLaws
