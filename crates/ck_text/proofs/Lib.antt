@@ -35,3 +35,6 @@ pub mod ProofRereading
 pub mod ProofExactness
 pub mod ProofMeanings
 pub mod ProofOutcomes
+pub mod ProofRescanning
+pub mod ProofFitting
+pub mod ProofReturning

@@ -2,6 +2,7 @@
 
 ghost use Rattle.ck_text.specs.Laws.{FormulaMeans, FormulaReadsBack, FormulaTextIs, FormulaTextMeans, OneText, PrintedScans, ReadsExactly, SortedFormulaHasText, SortedTermHasText, TermMeans, TermReadsBack, TermTextIs, TermTextMeans, TokensAreWritten};
 ghost use Rattle.ck_text.specs.ProofLaws.{OneProof, ProofMeansKnown, ReadsProofsExactly};
+ghost use Rattle.ck_text.specs.ProofPrintingLaws.{ProofPrintedScans, ProofReadsBack, ProofTextIs, ProofTextMeans};
 ghost use Rattle.ck_text.specs.ProofReadingLaws.{OneProofOutcome};
 ghost use Rattle.ck_text.specs.ReadingLaws.{FormulaLevels, FormulaNodes, OneOutcome, ReadsOutcomes, TermLevels, TermNodes, UnknownNames};
 
@@ -93,4 +94,20 @@ pub fn proof_means_by_names()
 /// Reading a text as a proof comes to one of its outcomes, and to no other.
 pub fn one_proof_outcome()
     ensures { OneProofOutcome }
+{}
+
+/// The printed bytes of a written proof have just its tokens.
+pub fn printed_proof_scans()
+    ensures { ProofPrintedScans }
+{}
+
+/// The text of a proof term is one of the grammar, and it means the proof term.
+pub fn proofs_have_texts()
+    ensures grammar { ProofTextIs }
+    ensures meaning { ProofTextMeans }
+{}
+
+/// The printed bytes of a proof term mean it.
+pub fn proof_reads_back()
+    ensures { ProofReadsBack }
 {}
