@@ -41,3 +41,6 @@ pub mod ProofKept
 pub mod ProofShown
 pub mod ProofFollowing
 pub mod ProofAnswers
+pub mod ProofRescanning
+pub mod ProofFitting
+pub mod ProofReturning

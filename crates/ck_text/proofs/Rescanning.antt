@@ -21,12 +21,12 @@ use Rattle.ck_text.specs.Laws.{PrintedScans}
 use Rattle.ck_text.proofs.Decimals.{plain}
 
 -- the first byte, where there is one, does not pass the test
-abbrev Stops : (ℕ → Bool) → List ℕ → Type 0
+abbrev pub Stops : (ℕ → Bool) → List ℕ → Type 0
 Stops test [] = Unit {0}
 Stops test (b ∷ bytes) = test b ≡ false
 
 -- the bytes go on with none of a word or a number
-abbrev Ends : List ℕ → Type 0
+abbrev pub Ends : List ℕ → Type 0
 Ends bytes = Stops is_name_byte bytes
 
 middle_false : (x y z : Bool) → (x || y || z) ≡ false → y ≡ false
@@ -73,7 +73,7 @@ word_first b bytes rest begins all ends =
 no_blank : (b : ℕ) → 33 ≤ b → is_blank b ≡ false
 no_blank b h = or_from (b == 32) (b == 9) (ne_eqb b 32 (λ e. omega (arith, e, h))) (ne_eqb b 9 (λ e. omega (arith, e, h)))
 
-word_scans : (b : ℕ) (bytes rest : List ℕ) → begins_word b ≡ true → list_all is_name_byte bytes ≡ true → Ends rest → bare (scan 0 (b ∷ (bytes ++ rest))) ≡ word_token (b ∷ bytes) ∷ bare (scan 0 rest)
+pub word_scans : (b : ℕ) (bytes rest : List ℕ) → begins_word b ≡ true → list_all is_name_byte bytes ≡ true → Ends rest → bare (scan 0 (b ∷ (bytes ++ rest))) ≡ word_token (b ∷ bytes) ∷ bare (scan 0 rest)
 word_scans b bytes rest begins all ends =
     let most : 95 ≤ b = letter_most b begins in
     token_scans b bytes rest (word_token (b ∷ bytes)) (no_blank b (omega (arith, most))) (word_first b bytes rest begins all ends)
@@ -99,7 +99,7 @@ name_token w h =
     let e12 = or_parts (bytes_eq w (codes "mod")) _ e11.1 in
     rw (e1.0, e2.0, e3.0, e4.0, e5.0, e6.0, e7.0, e8.0, e9.0, e10.0, e11.0, e12.0) refl
 
-name_scans : (bytes rest : List ℕ) → is_word bytes ≡ true → Ends rest → bare (scan 0 (bytes ++ rest)) ≡ token.word bytes ∷ bare (scan 0 rest)
+pub name_scans : (bytes rest : List ℕ) → is_word bytes ≡ true → Ends rest → bare (scan 0 (bytes ++ rest)) ≡ token.word bytes ∷ bare (scan 0 rest)
 name_scans [] rest h e = absurd (cc)
 name_scans (b ∷ bytes) rest h e =
     let p = and_parts (begins_word b && list_all is_name_byte bytes) (not (list_any (bytes_eq (b ∷ bytes)) reserved_words)) h in
@@ -123,7 +123,7 @@ number_first b digits rest is all ends =
       starts : first_token b (digits ++ rest) ≡ (number_token (b ∷ take (count_while is_digit (digits ++ rest)) (digits ++ rest)), count_while is_digit (digits ++ rest))
       starts = rw (no_letter b (digit_bounds b is).1, is) refl
 
-number_scans : (n : ℕ) (rest : List ℕ) → n < 2 ^ 127 → Ends rest → bare (scan 0 (decimal n ++ rest)) ≡ token.number n ∷ bare (scan 0 rest)
+pub number_scans : (n : ℕ) (rest : List ℕ) → n < 2 ^ 127 → Ends rest → bare (scan 0 (decimal n ++ rest)) ≡ token.number n ∷ bare (scan 0 rest)
 number_scans n rest h e =
     let p = plain n (omega (arith, h)) in
     let least : 48 ≤ p.first = (digit_bounds p.first p.digit).0 in
@@ -153,11 +153,11 @@ prefix_scans prefixes.Not rest = refl
 prefix_scans prefixes.Minus [] = refl
 prefix_scans prefixes.Minus (b ∷ rest) = refl
 
-open_scans : (rest : List ℕ) → bare (scan 0 (codes "(" ++ rest)) ≡ token.mark marks.Open ∷ bare (scan 0 rest)
+pub open_scans : (rest : List ℕ) → bare (scan 0 (codes "(" ++ rest)) ≡ token.mark marks.Open ∷ bare (scan 0 rest)
 open_scans [] = refl
 open_scans (b ∷ rest) = refl
 
-close_scans : (rest : List ℕ) → bare (scan 0 (codes ")" ++ rest)) ≡ token.mark marks.Close ∷ bare (scan 0 rest)
+pub close_scans : (rest : List ℕ) → bare (scan 0 (codes ")" ++ rest)) ≡ token.mark marks.Close ∷ bare (scan 0 rest)
 close_scans [] = refl
 close_scans (b ∷ rest) = refl
 
@@ -194,7 +194,7 @@ pub are_parts : (ts us : List Token) → AreTokens (ts ++ us) → AreTokens ts �
 are_parts [] us h = (tt, h)
 are_parts (t ∷ ts) us h = let p = are_parts ts us h.1 in ((h.0, p.0), p.1)
 
-text_scans : (a : Text) (rest : List ℕ) → AreTokens (tokens a) → Ends rest → bare (scan 0 (printed a ++ rest)) ≡ tokens a ++ bare (scan 0 rest)
+pub text_scans : (a : Text) (rest : List ℕ) → AreTokens (tokens a) → Ends rest → bare (scan 0 (printed a ++ rest)) ≡ tokens a ++ bare (scan 0 rest)
 text_scans (truth true) rest h e = word_scans 116 (codes "rue") rest refl refl e
 text_scans (truth false) rest h e = word_scans 102 (codes "alse") rest refl refl e
 text_scans falsity rest h e = word_scans 98 (codes "ottom") rest refl refl e

@@ -159,7 +159,7 @@ formula_text_means names variables a are few low h = formula_returns names are v
 
 -- # Tokens
 
-joined_are : (ts us : List Token) → AreTokens ts → AreTokens us → AreTokens (ts ++ us)
+pub joined_are : (ts us : List Token) → AreTokens ts → AreTokens us → AreTokens (ts ++ us)
 joined_are [] us h k = k
 joined_are (t ∷ ts) us h k = (h.0, joined_are ts us h.1 k)
 
@@ -174,7 +174,7 @@ sign_are o a b h k =
     joined_are (tokens (at_level (left_want o) a)) (token.joining o ∷ tokens (at_level (right_want o) b)) (level_are (left_want o) a h) (tt, level_are (right_want o) b k)
 
 module _ (names : List Decl) (are : AreNames names) where
-  term_are : (t : TermTree) (around : ℕ) → around < 10 ^ 64 → TermHasText (length names) around t → AreTokens (tokens (term_text names around t))
+  pub term_are : (t : TermTree) (around : ℕ) → around < 10 ^ 64 → TermHasText (length names) around t → AreTokens (tokens (term_text names around t))
   term_are (term.name x) around few h = (name_word names x are h, tt)
   term_are (term.index k) around few h = (variable_is_word (around - 1 - k) (omega (arith, few)), tt)
   term_are (term.integer (pos n)) around few h = (h, tt)
@@ -187,7 +187,7 @@ module _ (names : List Decl) (are : AreNames names) where
   term_are (term.unary term.denial t) around few h = (tt, level_are 6 (term_text names around t) (term_are t around few h))
   term_are (term.binary s t u) around few h = sign_are (term_sign s) (term_text names around t) (term_text names around u) (term_are t around few h.0) (term_are u around few h.1)
 
-  formula_are : (a : FormulaTree) (around : ℕ) → around + depth a < 10 ^ 64 → FormulaHasText (length names) around a → AreTokens (tokens (formula_text names around a))
+  pub formula_are : (a : FormulaTree) (around : ℕ) → around + depth a < 10 ^ 64 → FormulaHasText (length names) around a → AreTokens (tokens (formula_text names around a))
   formula_are formula.bottom around few h = (tt, tt)
   formula_are (formula.holds t) around few h = term_are t around (omega (arith, few)) h
   formula_are (formula.joined c a b) around few h =

@@ -14,3 +14,6 @@ pub mod ProofLaws
 pub mod ProofReading
 pub mod ProofReadingLaws
 pub mod ProofItems
+pub mod ProofPrinting
+pub mod ProofPrinters
+pub mod ProofPrintingLaws

@@ -2,6 +2,7 @@
 
 ghost use Rattle.ck_text.specs.Laws.{FormulaMeans, FormulaReadsBack, FormulaTextIs, FormulaTextMeans, OneText, PrintedScans, ReadsExactly, SortedFormulaHasText, SortedTermHasText, TermMeans, TermReadsBack, TermTextIs, TermTextMeans, TokensAreWritten};
 ghost use Rattle.ck_text.specs.ProofLaws.{OneProof, ProofMeansKnown, ReadsProofsExactly};
+ghost use Rattle.ck_text.specs.ProofPrintingLaws.{ProofPrintedScans, ProofReadsBack, ProofTextIs, ProofTextMeans};
 ghost use Rattle.ck_text.specs.ProofReadingLaws.{OneProofOutcome, ProofLevels, ProofNodes, ReadsProofOutcomes};
 ghost use Rattle.ck_text.specs.ReadingLaws.{FormulaLevels, FormulaNodes, OneOutcome, ReadsOutcomes, TermLevels, TermNodes, UnknownNames};
 
@@ -109,4 +110,20 @@ pub fn proof_levels()
 /// A proof term has at most twice as many nodes as its text has tokens.
 pub fn few_proof_nodes()
     ensures { ProofNodes }
+{}
+
+/// The printed bytes of a written proof have just its tokens.
+pub fn printed_proof_scans()
+    ensures { ProofPrintedScans }
+{}
+
+/// The text of a proof term is one of the grammar, and it means the proof term.
+pub fn proofs_have_texts()
+    ensures grammar { ProofTextIs }
+    ensures meaning { ProofTextMeans }
+{}
+
+/// The printed bytes of a proof term mean it.
+pub fn proof_reads_back()
+    ensures { ProofReadsBack }
 {}

@@ -15,6 +15,7 @@ mod items;
 pub mod laws;
 mod names;
 mod printing;
+mod proof_printing;
 mod reader;
 mod reading;
 mod scan;
@@ -23,6 +24,7 @@ pub mod token;
 
 pub use head::Head;
 pub use printing::{print_formula, print_term};
+pub use proof_printing::print_proof;
 pub use reading::{read_formula, read_term};
 pub use text_fault::TextFault;
 pub use token::{Mark, Prefix, Quantifier, Sign};

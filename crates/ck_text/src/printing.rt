@@ -75,7 +75,12 @@ fn write_term(
 }
 
 #[cycle(term)]
-fn write_bare_term(decls: &Decls, around: u64, t: &Term, out: &mut Text) -> Result<(), NoMemory>
+pub(crate) fn write_bare_term(
+    decls: &Decls,
+    around: u64,
+    t: &Term,
+    out: &mut Text,
+) -> Result<(), NoMemory>
     ensures ok { OnOk result (out.new ≡ out.old ++ printed (term_text decls.now around (term_tree t.now))) }
     ensures err { OnErr result (Extends out.old out.new) }
 {
@@ -175,7 +180,7 @@ fn write_formula(
 }
 
 #[cycle(formula)]
-fn write_bare_formula(
+pub(crate) fn write_bare_formula(
     decls: &Decls,
     around: u64,
     a: &Formula,
@@ -346,14 +351,14 @@ fn write_binder(word: &[u8], around: u64, sort: Sort, out: &mut Text) -> Result<
 }
 
 // The number of variables around the part of a quantifier. No memory holds 2^64 levels.
-fn inside(around: u64) -> Result<u64, NoMemory>
+pub(crate) fn inside(around: u64) -> Result<u64, NoMemory>
     ensures { IfOk result (λ n. n ≡ suc around) }
 {
     around.checked_add(1).ok_or(NoMemory)
 }
 
 // The number, from the outside, of the variable with this index.
-fn place(around: u64, index: u32) -> u64
+pub(crate) fn place(around: u64, index: u32) -> u64
     ensures { result ≡ around - 1 - index }
 {
     around.saturating_sub(1).saturating_sub(index as u64)
@@ -392,7 +397,7 @@ fn write_integer(n: i128, out: &mut Text) -> Result<(), NoMemory>
 
 // The decimal digits of the number, without a leading zero.
 #[tactic(auto, using(crate::proofs::Decimals::only_digit))]
-fn write_decimal(n: u128, out: &mut Text) -> Result<(), NoMemory>
+pub(crate) fn write_decimal(n: u128, out: &mut Text) -> Result<(), NoMemory>
     ensures ok { OnOk result (out.new ≡ out.old ++ decimal n) }
     ensures err { OnErr result (Extends out.old out.new) }
 {
