@@ -204,7 +204,7 @@ fn implications(rt: HostRuntime) -> Result<(), Fail> {
         )?
     );
     // A hypothesis that is not there.
-    assert!(rt; answer(alloc, Ask::Formula, 1, b"#0")?.as_bytes() == b"place 0");
+    assert!(rt; answer(alloc, Ask::Formula, 1, b"#0")?.as_bytes() == b"place 0".as_slice());
     assert!(rt; lacks(alloc, b"lam(7, #0)", 1)?);
     // The part of a lambda over no formula is passed over.
     assert!(rt; lacks(alloc, b"lam(7, first(#0))", 2)?);
