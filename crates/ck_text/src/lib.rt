@@ -1,12 +1,12 @@
 //! Texts of terms, formulas and proofs: how they are written, and which tree each means.
 //!
-//! It stands on `formulas` and `proof_terms`. Its definitions are in `specs/`: the tokens of a text (`Tokens.antt`), written
-//! terms and formulas with the trees that they mean (`Texts.antt`), the texts of trees and their bytes
-//! (`Printing.antt`), what reading bytes comes to, a tree or a fault and its column (`Reading.antt`), and
-//! what is proved of all of them (`Laws.antt`, `ReadingLaws.antt`). `Machine.antt` has the steps of the
-//! reader over tokens, `Items.antt` the same steps over what the reader keeps of each text, and
-//! `Printers.antt` words for parts of the printer. Proofs have definitions of their own (`ProofTexts.antt`,
-//! `ProofReading.antt`, `ProofMachine.antt`, `ProofLaws.antt`); no code reads or prints them yet.
+//! It stands on `formulas` and `proof_terms`. Its definitions are in `specs/`, those of proofs in files of their
+//! own: the tokens of a text (`Tokens.antt`); what is written, with the trees that it means (`Texts.antt`,
+//! `ProofTexts.antt`); the texts of trees and their bytes (`Printing.antt`, `ProofPrinting.antt`); what reading
+//! bytes comes to, a tree or a fault and its column (`Reading.antt`, `ProofReading.antt`); and what is proved of
+//! all of them (the files whose names end in `Laws`). `Machine.antt` and `ProofMachine.antt` have the steps of a
+//! reader over tokens, `Items.antt` and `ProofItems.antt` the same steps over what the code keeps of each text,
+//! and the files `Views`, `ProofViews`, `Printers` and `ProofPrinters` words for parts of the code.
 #![tactic(auto)]
 
 mod digits;

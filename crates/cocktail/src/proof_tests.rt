@@ -403,7 +403,7 @@ fn faults_have_columns(rt: HostRuntime) -> Result<(), Fail> {
     assert!(rt; has(alloc, b"axiom(4294967296)", b"syntax, column 7")?);
     assert!(rt; has(alloc, b"gen(true, #0)", b"syntax, column 5")?);
     assert!(rt; has(alloc, b"refl((a => b))", b"syntax, column 9")?);
-    assert!(rt; has(alloc, b"lam(a, #1)", b"unknown name, column 8")?);
+    assert!(rt; has(alloc, b"lam(true, #1)", b"unknown name, column 11")?);
     assert!(rt; has(alloc, b"pair(refl(q), #0)", b"unknown name, column 11")?);
     assert!(rt; has(alloc, b"gen(int, refl(_1))", b"unknown name, column 15")?);
     assert!(rt; has(alloc, b"refl(-(1 + 2)) x", b"syntax, column 16")?);
