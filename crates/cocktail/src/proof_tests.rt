@@ -58,13 +58,7 @@ fn answer(alloc: Global, ask: Ask, hyps: u32, text: &[u8]) -> Result<Text, DeclF
 }
 
 // The answer.
-fn asked(
-    alloc: Global,
-    decls: &Decls,
-    ask: Ask,
-    p: Proof,
-    out: &mut Text,
-) -> Result<(), NoMemory>
+fn asked(alloc: Global, decls: &Decls, ask: Ask, p: Proof, out: &mut Text) -> Result<(), NoMemory>
     requires { proof_size (proof_tree p) < 2 ^ 31 }
 {
     let mut p = p;
@@ -184,7 +178,12 @@ fn has(alloc: Global, text: &[u8], wanted: &[u8]) -> Result<bool, DeclFault> {
 
 /// The proof of that text has no formula, by its part with that number.
 fn lacks(alloc: Global, text: &[u8], place: u32) -> Result<bool, DeclFault> {
-    answers(alloc, Ask::Formula, text, format!(in alloc; "place {place}")?.as_bytes())
+    answers(
+        alloc,
+        Ask::Formula,
+        text,
+        format!(in alloc; "place {place}")?.as_bytes(),
+    )
 }
 
 /// The text is read as a proof, and printed and copied as it stands.
@@ -244,7 +243,13 @@ fn quantifiers(rt: HostRuntime) -> Result<(), Fail> {
 #[test]
 fn existential_formulas(rt: HostRuntime) -> Result<(), Fail> {
     let alloc = rt.alloc();
-    assert!(rt; has(alloc, b"pack(int, _0 = _0, 3, refl(3))", b"ex _0:int. _0 = _0")?);
+    assert!(rt;
+        has(
+            alloc,
+            b"pack(int, _0 = _0, 3, refl(3))",
+            b"ex _0:int. _0 = _0"
+        )?
+    );
     assert!(rt; lacks(alloc, b"pack(bool, _0 = _0, true, refl(3))", 1)?);
     assert!(rt; lacks(alloc, b"pack(int, _0 = _0, true, refl(3))", 1)?);
     assert!(rt; lacks(alloc, b"pack(int, _0 = _0, 4, refl(3))", 1)?);
@@ -268,7 +273,13 @@ fn existential_formulas(rt: HostRuntime) -> Result<(), Fail> {
 #[test]
 fn pairs_and_cases(rt: HostRuntime) -> Result<(), Fail> {
     let alloc = rt.alloc();
-    assert!(rt; has(alloc, b"lam(a /\\ b, pair(second(#0), first(#0)))", b"a /\\ b => b /\\ a")?);
+    assert!(rt;
+        has(
+            alloc,
+            b"lam(a /\\ b, pair(second(#0), first(#0)))",
+            b"a /\\ b => b /\\ a"
+        )?
+    );
     assert!(rt; lacks(alloc, b"lam(a, pair(first(#0), #0))", 1)?);
     assert!(rt; lacks(alloc, b"lam(a, pair(#0, second(#0)))", 2)?);
     assert!(rt;
@@ -302,7 +313,13 @@ fn falsity_and_equality(rt: HostRuntime) -> Result<(), Fail> {
     assert!(rt; has(alloc, b"refl(3)", b"3 = 3")?);
     // Nodes of terms are not counted.
     assert!(rt; lacks(alloc, b"pair(refl(1 + 2 + 3), refl(true))", 1)?);
-    assert!(rt; has(alloc, b"lam(0 = 1, rewrite(_0 = 0, #0, refl(0)))", b"0 = 1 => 1 = 0")?);
+    assert!(rt;
+        has(
+            alloc,
+            b"lam(0 = 1, rewrite(_0 = 0, #0, refl(0)))",
+            b"0 = 1 => 1 = 0"
+        )?
+    );
     assert!(rt; lacks(alloc, b"lam(1 = 0, rewrite(_0 = 0, #0, refl(0)))", 2)?);
     assert!(rt; lacks(alloc, b"lam(0 = 1, rewrite(_0, #0, refl(0)))", 2)?);
     assert!(rt; lacks(alloc, b"lam(a, rewrite(_0 = 0, #0, refl(0)))", 2)?);
@@ -354,9 +371,19 @@ fn proofs_are_copied(rt: HostRuntime) -> Result<(), Fail> {
     assert!(rt; copies(alloc, b"gen(bool, inst(#0, _0 or x = 2))")?);
     assert!(rt; copies(alloc, b"pair(first(#1), second(#2))")?);
     assert!(rt; copies(alloc, b"cases(#0, left(~a, #9), right(b /\\ a, #9))")?);
-    assert!(rt; copies(alloc, b"pack(int, x < _0, -3, unpack(#0, absurd(_0 = x, stable(#9))))")?);
+    assert!(rt;
+        copies(
+            alloc,
+            b"pack(int, x < _0, -3, unpack(#0, absurd(_0 = x, stable(#9))))"
+        )?
+    );
     assert!(rt; copies(alloc, b"rewrite(_0 = x, refl(x + 1), axiom(26))")?);
-    assert!(rt; copies(alloc, b"pair(induct(0 <= _0), pair(compute(1 < 2), ring(x, x * 1)))")?);
+    assert!(rt;
+        copies(
+            alloc,
+            b"pair(induct(0 <= _0), pair(compute(1 < 2), ring(x, x * 1)))"
+        )?
+    );
     Ok(())
 }
 
@@ -471,7 +498,14 @@ fn deep_proofs(rt: HostRuntime) -> Result<(), Fail> {
     let deepest = text.as_bytes();
     assert!(rt; has(alloc, deepest, b"place 0")?);
     assert!(rt; copies(alloc, deepest)?);
-    assert!(rt; answers(alloc, Ask::Measures, deepest, b"levels 2048, nodes 2048, holes 1")?);
+    assert!(rt;
+        answers(
+            alloc,
+            Ask::Measures,
+            deepest,
+            b"levels 2048, nodes 2048, holes 1"
+        )?
+    );
     let filled = nested(alloc, 2_047, b"stable(", b"axiom(3)", b")")?;
     assert!(rt; answers(alloc, Ask::Fill(1, b"axiom(3)"), deepest, filled.as_bytes())?);
     let text = nested(alloc, 2_048, b"stable(", b"?1", b")")?;

@@ -2,9 +2,8 @@
 
 use super::*;
 use ck_base::{Decls, NoMemory, Scope, Text};
-use ck_text::print_formula;
+use ck_text::{print_formula, print_proof};
 use formulas::Formula;
-use proof_terms::Proof;
 use std::alloc::Global;
 use std::test::Fail;
 
@@ -90,64 +89,47 @@ fn lines_that_mean_nothing(rt: HostRuntime) {
     assert!(rt; is_unread(alloc, b"export export"));
 }
 
-/// Hypotheses are counted from the oldest in a text, and from the newest in a tree.
+/// What a line asks for, printed.
+fn asked(alloc: Global, line: &Line) -> Result<Text, NoMemory> {
+    let mut text = Text::new(alloc);
+    match line {
+        Line::Spec { .. } => text.append(b"spec")?,
+        Line::Skip { hole } => text.append(format!(in alloc; "{hole}: skip")?.as_bytes())?,
+        Line::Intro { hole } => text.append(format!(in alloc; "{hole}: intro")?.as_bytes())?,
+        Line::Exact { hole, proof } => {
+            text.append(format!(in alloc; "{hole}: exact ")?.as_bytes())?;
+            let scope = Scope { sorts: 0, hyps: 2 };
+            print_proof(&Decls::new(alloc), scope, proof, &mut text)?;
+        }
+        Line::Export => text.append(b"export")?,
+    }
+    Ok(text)
+}
+
+/// Whether the line asks for that, where hole 3 is open under two hypotheses.
+fn asks(alloc: Global, line: &[u8], wanted: &[u8]) -> Result<bool, NoMemory> {
+    match read_line(alloc, OPENED, line) {
+        Ok(line) => Ok(asked(alloc, &line)?.as_bytes() == wanted),
+        Err(_) => Ok(false),
+    }
+}
+
 #[test]
-fn steps(rt: HostRuntime) {
+fn steps(rt: HostRuntime) -> Result<(), Fail> {
+    let alloc = rt.alloc();
+    assert!(rt; asks(alloc, b"007 :skip", b"7: skip")?);
+    assert!(rt; asks(alloc, b"4294967295:intro", b"4294967295: intro")?);
+    assert!(rt; asks(alloc, b"\texport ", b"export")?);
+    assert!(rt; asks(alloc, b"3: exact #01", b"3: exact #1")?);
     assert!(rt;
-        matches!(
-            read_line(rt.alloc(), OPENED, b"007 :skip"),
-            Ok(Line::Skip { hole: 7 })
-        )
+        asks(
+            alloc,
+            b"3: exact lam(true,app(#2, #0))",
+            b"3: exact lam(true, app(#2, #0))"
+        )?
     );
-    assert!(rt;
-        matches!(
-            read_line(rt.alloc(), OPENED, b"4294967295:intro"),
-            Ok(Line::Intro {
-                hole: 4_294_967_295
-            })
-        )
-    );
-    assert!(rt;
-        matches!(
-            read_line(rt.alloc(), OPENED, b"\texport "),
-            Ok(Line::Export)
-        )
-    );
-    assert!(rt;
-        matches!(
-            read_line(rt.alloc(), OPENED, b"3: exact #0"),
-            Ok(Line::Exact {
-                hole: 3,
-                proof: Proof::Hyp(1)
-            })
-        )
-    );
-    assert!(rt;
-        matches!(
-            read_line(rt.alloc(), OPENED, b"3: exact #01"),
-            Ok(Line::Exact {
-                hole: 3,
-                proof: Proof::Hyp(0)
-            })
-        )
-    );
-    assert!(rt; is_unread(rt.alloc(), b"2: exact #0"));
-    let Ok(
-        Line::Exact {
-            proof: Proof::Lam(_, p),
-            ..
-        },
-    ) = read_line(rt.alloc(), OPENED, b"3: exact lam(true, app(#2, #0))")
-    else {
-        assert!(rt; false);
-        return;
-    };
-    let Proof::App(f, a) = Box::into_inner(p) else {
-        assert!(rt; false);
-        return;
-    };
-    assert!(rt; matches!(Box::into_inner(f), Proof::Hyp(0)));
-    assert!(rt; matches!(Box::into_inner(a), Proof::Hyp(2)));
+    assert!(rt; is_unread(alloc, b"2: exact #0"));
+    Ok(())
 }
 
 /// So many bytes, and behind them the text.
