@@ -1,8 +1,7 @@
 -- The text of a proof term is one of the grammar, and its tokens can be written.
-use Rattle.std.proofs.Common.{arith, ◌≡◌, ℕ, suc, ◌+◌, ◌-◌, ◌^◌, ◌≤◌, ◌<◌, max, true, List, [], ◌∷◌, ◌++◌, length, refl}
+use Rattle.std.proofs.Common.{arith, ℕ, suc, ◌+◌, ◌^◌, ◌≤◌, max, true, List, [], ◌∷◌, length, refl}
 use Rattle.std.proofs.Math.Nat.{le-max_left, le-max_right}
 use Rattle.ck_base.specs.Names.{AreNames}
-use Rattle.ck_base.specs.declared.decl.Sort.{Sort}
 use Rattle.ck_base.specs.declared.decl.Decl.{Decl}
 use Rattle.sorted_terms.specs.Tree.{TermTree}
 use Rattle.formulas.specs.Tree.{FormulaTree}
@@ -16,7 +15,7 @@ use Rattle.ck_text.specs.declared.token.Mark.TheVariants as marks
 use Rattle.ck_text.specs.Tokens.{AreTokens}
 use Rattle.ck_text.specs.Tokens as token
 use Rattle.ck_text.specs.Printing.{TermHasText, FormulaHasText}
-use Rattle.ck_text.specs.ProofTexts.{ProofText, headed, Arguments, last, more, Argument, of_sort, of_number, of_proof, proof_tokens, arguments_tokens, argument_tokens, IsProofText}
+use Rattle.ck_text.specs.ProofTexts.{headed, Arguments, last, more, Argument, of_sort, of_number, of_proof, proof_tokens, arguments_tokens, argument_tokens, IsProofText}
 use Rattle.ck_text.specs.ProofPrinting.{term_argument, formula_argument, proof_text, ProofHasText, HasLowExpressions}
 use Rattle.ck_text.specs.ProofPrintingLaws.{ProofTextIs}
 use Rattle.ck_text.proofs.Fitting.{term_text_is, formula_text_is}

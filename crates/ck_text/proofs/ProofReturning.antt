@@ -1,6 +1,5 @@
 -- The text of a proof term means the proof term, and its printed bytes are read back.
-use Rattle.std.proofs.Common.{arith, ◌≡◌, ℕ, suc, ◌+◌, ◌-◌, ◌^◌, ◌≤◌, ◌<◌, max, true, false, nat_lt, List, [], ◌∷◌, length, Some, None, refl, sym, ap, ap₂, ◌∙◌, subst, if◌then◌else◌}
-use Rattle.std.specs.declared.option.Option.{Option}
+use Rattle.std.proofs.Common.{arith, ◌≡◌, ℕ, suc, ◌+◌, ◌-◌, ◌^◌, ◌≤◌, ◌<◌, max, List, [], ◌∷◌, length, Some, None, refl, sym, ap, ap₂, ◌∙◌, subst}
 use Rattle.std.specs.Option.{option_map}
 use Rattle.std.proofs.lemmas.Bool.{lt-ltb, le-ltb}
 use Rattle.ck_base.specs.Names.{AreNames}
@@ -18,7 +17,7 @@ use Rattle.ck_text.specs.declared.head.Head.TheVariants as heads
 use Rattle.ck_text.specs.Texts.{Text, first_of, whole_scope, term_of, formula_of}
 use Rattle.ck_text.specs.Reading.{term_levels, formula_levels}
 use Rattle.ck_text.specs.Printing.{term_text, formula_text, TermHasText, FormulaHasText}
-use Rattle.ck_text.specs.ProofTexts.{Kind, a_sort, a_number, a_term, a_formula, a_proof, kinds, ProofText, numbered, headed, Arguments, last, more, Argument, of_sort, of_number, of_expression, of_proof, argument_tokens, Part, sort, number, term, formula, proof_term, built, built_of, parts_of, proof_of, meanings_of, part_of, too_deep, deep_at, deep_among, deep_in}
+use Rattle.ck_text.specs.ProofTexts.{Kind, a_sort, a_number, a_term, a_formula, a_proof, kinds, ProofText, numbered, headed, Arguments, last, more, Argument, of_sort, of_number, of_proof, argument_tokens, Part, sort, number, term, formula, proof_term, built, built_of, parts_of, proof_of, meanings_of, part_of, too_deep, deep_at, deep_among, deep_in}
 use Rattle.ck_text.specs.ProofPrinting.{term_argument, formula_argument, proof_text, ProofHasText, HasLowExpressions}
 use Rattle.ck_text.specs.ProofPrintingLaws.{proof_scope, ProofTextMeans, ProofReadsBack}
 use Rattle.ck_text.proofs.Depths.{term_levels_are, formula_levels_are}

@@ -30,6 +30,8 @@ pub use text_fault::TextFault;
 pub use token::{Mark, Prefix, Quantifier, Sign};
 
 #[cfg(test)]
+mod proof_printing_tests;
+#[cfg(test)]
 mod reading_tests;
 #[cfg(test)]
 mod tests;
