@@ -35,3 +35,5 @@ pub mod ProofRereading
 pub mod ProofExactness
 pub mod ProofMeanings
 pub mod ProofOutcomes
+pub mod ProofRooms
+pub mod ProofRuns

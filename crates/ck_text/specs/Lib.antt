@@ -14,3 +14,4 @@ pub mod ProofLaws
 pub mod ProofReading
 pub mod ProofReadingLaws
 pub mod ProofItems
+pub mod ProofViews

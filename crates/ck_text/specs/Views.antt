@@ -1,12 +1,12 @@
 -- What the reader's code keeps, as its definitions say it.
-use Rattle.ck_base.specs.declared.limits.TheConstants.{NESTING}
+use Rattle.ck_base.specs.declared.limits.TheConstants.{NESTING, FORMULA_DEPTH}
 use Rattle.std.specs.declared.result.Result.{Result}
 use Rattle.ck_text.specs.declared.text_fault.TextFault.{TextFault}
 use Rattle.ck_text.specs.declared.text_fault.TextFault.TheVariants as faults
 use Rattle.ck_text.specs.declared.reader.Stop.{Stop}
 use Rattle.ck_text.specs.declared.reader.Stop.TheVariants as stops
 use Rattle.ck_text.specs.declared.scan.Placed as code_placed
-use Rattle.std.specs.Prelude.{◌≡◌, Ok, Err, ℕ, ◌<◌, ◌^◌, Bool, false, List, [], ◌∷◌, map, reverse}
+use Rattle.std.specs.Prelude.{◌≡◌, Ok, Err, Some, None, ℕ, ◌<◌, ◌^◌, Bool, true, false, List, [], ◌∷◌, map, reverse}
 use Rattle.sorted_terms.specs.Tree.{term_tree}
 use Rattle.formulas.specs.Tree.{formula_tree}
 use Rattle.ck_text.specs.declared.items.Tree as code_tree
@@ -17,14 +17,17 @@ use Rattle.ck_text.specs.declared.items.Lead.TheVariants as leads
 use Rattle.ck_text.specs.declared.items.Held as code_held
 use Rattle.ck_text.specs.declared.items.Held.TheVariants as helds
 use Rattle.ck_text.specs.declared.items.Frame as code_frame
-use Rattle.ck_text.specs.Texts.{Lead, prefix, binder}
+use Rattle.ck_text.specs.Texts.{Lead, prefix, binder, Bindings}
 use Rattle.ck_text.specs.Reading.{Tree, of_term, of_formula, Fault, by_syntax, by_depth, by_name}
-use Rattle.ck_text.specs.Items.{Item, Held, leading, operand, parenthesis, Frame, State, wanting, having, naming, named, sorting, sorted, takes, opened, tree_asked}
+use Rattle.ck_text.specs.Items.{Item, Held, leading, operand, parenthesis, Frame, State, wanting, having, naming, named, sorting, sorted, takes, opened, step, finished, tree_asked}
 use Rattle.ck_text.specs.Tokens.{Token, Placed, word, number, truth, sort, quantifier, joining, mark, none}
 use Rattle.std.specs.declared.option.Option.{Option}
 use Rattle.std.specs.Option.{option_map}
 use Rattle.ck_text.specs.declared.reader.Mode as code_mode
 use Rattle.ck_text.specs.declared.reader.Mode.TheVariants as modes
+use Rattle.ck_text.specs.declared.reader.Going as code_going
+use Rattle.ck_text.specs.declared.reader.Going.TheVariants as goings
+use Rattle.ck_text.specs.declared.token.Mark.TheVariants as marks
 use Rattle.ck_text.specs.declared.scan.Token as code_token
 use Rattle.ck_text.specs.declared.scan.Token.TheVariants as tokens
 
@@ -112,3 +115,17 @@ Reads asked (Err (faults.Syntax column)) outcome = outcome ≡ Err (by_syntax co
 Reads asked (Err (faults.Deep column)) outcome = outcome ≡ Err (by_depth column)
 Reads asked (Err (faults.Unknown column)) outcome = outcome ≡ Err (by_name column)
 Reads asked (Err faults.NoMemory) outcome = Unit {0}
+
+-- `,` or `)`
+abbrev pub is_separator : Token → Bool
+is_separator (mark marks.Comma) = true
+is_separator (mark marks.Close) = true
+is_separator t = false
+
+-- A token inside a longer text goes on with the term or formula, or it is refused and the term or formula may end
+-- there, or neither.
+abbrev pub Goes : (asked : Bool) → Bindings → code_going.Going → List code_frame.Frame → State → Token → Type 0
+Goes asked scope (goings.On mode) frames before t = step NESTING FORMULA_DEPTH asked scope before t ≡ Some (state mode frames)
+Goes asked scope (goings.Ended i) frames before t = (step NESTING FORMULA_DEPTH asked scope before t ≡ None) × (finished FORMULA_DEPTH before ≡ Some (item i))
+Goes asked scope goings.Refused frames before t =
+    (step NESTING FORMULA_DEPTH asked scope before t ≡ None) × (is_separator t ≡ true → finished FORMULA_DEPTH before ≡ None)

@@ -15,6 +15,10 @@ mod items;
 pub mod laws;
 mod names;
 mod printing;
+mod proof_calls;
+mod proof_parts;
+mod proof_reader;
+mod proof_reading;
 mod reader;
 mod reading;
 mod scan;
@@ -23,6 +27,7 @@ pub mod token;
 
 pub use head::Head;
 pub use printing::{print_formula, print_term};
+pub use proof_reading::read_proof;
 pub use reading::{read_formula, read_term};
 pub use text_fault::TextFault;
 pub use token::{Mark, Prefix, Quantifier, Sign};

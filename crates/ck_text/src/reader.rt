@@ -1,10 +1,12 @@
 //! The reader of texts over tokens.
 
-ghost use Rattle.std.specs.Prelude.{◌≡◌, suc, true, false, ◌+◌, ◌≤◌, ◌<◌, ◌^◌, ◌&&◌, nat_le, nat_lt, length, map, List, [], ◌∷◌, Some, None, IfOk, OnOk, IfErr};
+ghost use Rattle.std.specs.Prelude.{◌≡◌, suc, true, false, ◌+◌, ◌≤◌, ◌<◌, ◌^◌, ◌&&◌, nat_le, nat_lt, length, map, Bool, List, [], ◌∷◌, Some, None, IfOk, OnOk, IfErr};
 ghost use Rattle.std.specs.Option.{option_map};
 ghost use Rattle.sorted_terms.specs.Tree.{term_tree};
 ghost use Rattle.ck_base.specs.declared.limits.TheConstants.{FORMULA_DEPTH, NESTING};
 ghost use Rattle.ck_text.specs.declared.token.Prefix.TheVariants as prefixes;
+ghost use Rattle.ck_text.specs.declared.token.Mark.TheVariants as marks;
+ghost use Rattle.ck_text.specs.Tokens as token;
 ghost use Rattle.ck_text.specs.Items as spec;
 ghost use Rattle.ck_text.specs.Texts as grammar;
 ghost use Rattle.ck_text.specs.Views as views;
@@ -232,8 +234,7 @@ fn operand<'a>(
     stack: &mut List<Frame<'a>>,
     t: Token<'a>,
 ) -> Result<Option<Mode<'a>>, NoMemory>
-    requires few { length stack.old < 2 ^ 31 }
-    requires variables { variables < 2 ^ 31 }
+    requires indices { length stack.old + variables < 2 ^ 32 }
     requires small { views.IsSmall (views.token t) }
     ensures few { OnOk result (length stack.new ≤ length stack.old + 1) }
     ensures state { IfOk result (λ m. views.maybe_state m stack.new ≡ spec.step NESTING FORMULA_DEPTH asked (grammar.whole_scope names.now variables) (spec.wanting (views.stack stack.old)) (views.token t.entry)) }
@@ -288,8 +289,8 @@ fn bound<'a>(
     Ok(Some(Mode::Wanting))
 }
 
-// The mode after a token.
-fn step<'a>(
+/// The mode after a token.
+pub(crate) fn step<'a>(
     alloc: Global,
     names: &Decls,
     variables: u32,
@@ -298,8 +299,7 @@ fn step<'a>(
     mode: Mode<'a>,
     t: Token<'a>,
 ) -> Result<Option<Mode<'a>>, NoMemory>
-    requires few { length stack.old < 2 ^ 31 }
-    requires variables { variables < 2 ^ 31 }
+    requires indices { length stack.old + variables < 2 ^ 32 }
     requires small { views.IsSmall (views.token t) }
     requires room { views.HasRoom (views.state mode stack.old) }
     ensures few { OnOk result (length stack.new ≤ length stack.old + 1) }
@@ -332,6 +332,78 @@ fn step<'a>(
     }
 }
 
+/// What a token does to a term or formula inside a longer text: it goes on with it, or it ended before it.
+pub(crate) enum Going<'a> {
+    On(Mode<'a>),
+    Ended(Item),
+    Refused,
+}
+
+// A `)` inside a longer text.
+fn at_close<'a>(
+    alloc: Global,
+    stack: &mut List<Frame<'a>>,
+    mode: Mode<'a>,
+) -> Result<Going<'a>, NoMemory>
+    ensures few { OnOk result (length stack.new ≤ length stack.old) }
+    ensures state { (asked : Bool) (scope : grammar.Bindings) → IfOk result (λ g. views.Goes asked scope g stack.new (views.state mode.entry stack.old) (token.mark marks.Close)) }
+{
+    match mode {
+        Mode::Having(i) => {
+            let i = reduced(alloc, stack, 0, i)?;
+            match stack.pop() {
+                Some(frame) => match frame.held {
+                    Held::Parenthesis => Ok(Going::On(Mode::Having(closed(i)))),
+                    _ => Ok(Going::Refused),
+                },
+                None => Ok(Going::Ended(i)),
+            }
+        }
+        _ => Ok(Going::Refused),
+    }
+}
+
+// A `,` inside a longer text.
+fn at_comma<'a>(
+    alloc: Global,
+    stack: &mut List<Frame<'a>>,
+    mode: Mode<'a>,
+) -> Result<Going<'a>, NoMemory>
+    ensures few { OnOk result (length stack.new ≤ length stack.old) }
+    ensures state { (asked : Bool) (scope : grammar.Bindings) → IfOk result (λ g. views.Goes asked scope g stack.new (views.state mode.entry stack.old) (token.mark marks.Comma)) }
+{
+    match finished(alloc, stack, mode)? {
+        Some(i) => Ok(Going::Ended(i)),
+        None => Ok(Going::Refused),
+    }
+}
+
+/// A token where a term or formula inside a longer text may end before `,` or `)`.
+pub(crate) fn go_on<'a>(
+    alloc: Global,
+    names: &Decls,
+    variables: u32,
+    asked: bool,
+    stack: &mut List<Frame<'a>>,
+    mode: Mode<'a>,
+    t: Token<'a>,
+) -> Result<Going<'a>, NoMemory>
+    requires indices { length stack.old + variables < 2 ^ 32 }
+    requires small { views.IsSmall (views.token t) }
+    requires room { views.HasRoom (views.state mode stack.old) }
+    ensures few { OnOk result (length stack.new ≤ length stack.old + 1) }
+    ensures state { IfOk result (λ g. views.Goes asked (grammar.whole_scope names.now variables) g stack.new (views.state mode.entry stack.old) (views.token t.entry)) }
+{
+    match t {
+        Token::Mark(Mark::Comma) => at_comma(alloc, stack, mode),
+        Token::Mark(Mark::Close) => at_close(alloc, stack, mode),
+        _ => match step(alloc, names, variables, asked, stack, mode, t)? {
+            Some(next) => Ok(Going::On(next)),
+            None => Ok(Going::Refused),
+        },
+    }
+}
+
 /// What stops the reader: a token, by its place, or memory.
 pub(crate) enum Stop {
     At(usize),
@@ -349,16 +421,15 @@ impl From<NoMemory> for Stop {
     }
 }
 
-// The place of the token, where it is a name that means nothing.
-fn unknown_here(
+/// The place of the token, where it is a name that means nothing.
+pub(crate) fn unknown_here(
     names: &Decls,
     variables: u32,
     frames: &[Frame],
     mode: &Mode,
     p: Placed,
 ) -> Option<usize>
-    requires few { length frames.now < 2 ^ 31 }
-    requires variables { variables < 2 ^ 31 }
+    requires indices { length frames.now + variables < 2 ^ 32 }
     ensures { result ≡ spec.unknown_here (grammar.whole_scope names.now variables) (views.state mode.now frames.now) (views.token p.entry.token) p.entry.left }
 {
     match mode {
@@ -382,8 +453,7 @@ fn first_unknown(
     p: Placed,
     unknown: Option<usize>,
 ) -> Option<usize>
-    requires few { length frames.now < 2 ^ 31 }
-    requires variables { variables < 2 ^ 31 }
+    requires indices { length frames.now + variables < 2 ^ 32 }
     ensures { result ≡ grammar.first_of unknown (spec.unknown_here (grammar.whole_scope names.now variables) (views.state mode.now frames.now) (views.token p.entry.token) p.entry.left) }
 {
     match unknown {
@@ -420,8 +490,7 @@ fn run(
     asked: bool,
     placed: &[Placed],
 ) -> Result<(Item, Option<usize>), Stop>
-    requires few { length placed.now < 2 ^ 31 }
-    requires variables { variables < 2 ^ 31 }
+    requires indices { length placed.now + variables < 2 ^ 32 }
     requires small { views.AreSmall (map views.placed placed.now) }
     ensures { views.Runs result (spec.run NESTING FORMULA_DEPTH asked (grammar.whole_scope names.now variables) (map views.placed placed.now) (spec.wanting []) None) }
 {
@@ -443,7 +512,8 @@ fn run(
     }
 }
 
-fn column(bytes: &[u8], left: usize) -> u32
+/// The column of the byte that has so many bytes from it to the end.
+pub(crate) fn column(bytes: &[u8], left: usize) -> u32
     requires { length bytes.now < 2 ^ 31 }
     ensures { result ≡ reading.column_of bytes.now left }
 {
@@ -459,8 +529,8 @@ fn left_of(placed: &[Placed]) -> usize
     }
 }
 
-// The levels of the asked form.
-fn levels(asked: bool, i: &Item) -> u32
+/// The levels of the asked form.
+pub(crate) fn levels(asked: bool, i: &Item) -> u32
     ensures { result ≡ spec.levels_asked FORMULA_DEPTH asked (views.item i.now) }
 {
     if asked { i.levels } else { height(i) }
