@@ -36,4 +36,5 @@ pub mod ProofExactness
 pub mod ProofMeanings
 pub mod ProofOutcomes
 pub mod ProofRooms
+pub mod ProofCalls
 pub mod ProofRuns

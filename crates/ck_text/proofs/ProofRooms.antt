@@ -14,7 +14,7 @@ use Rattle.ck_text.specs.Items as expression
 use Rattle.ck_text.specs.ProofTexts.{Kind, a_sort, a_number, a_term, a_formula, a_proof, kinds, ProofScope, Part}
 use Rattle.ck_text.specs.ProofMachine.{head_of}
 use Rattle.ck_text.specs.ProofItems.{Frame, State, expecting, marked, opening, within, complete, asked, scope_in, proof_scope, bindings, guarded, begins_proof, begins_expression, begins_sort, begins_number, begins, entered, next_argument, closes, separated, ends, inside, opens, numbers_mark, step}
-use Rattle.ck_text.specs.ProofViews.{HasRoom, variables_around, hypotheses_around, HasSpace}
+use Rattle.ck_text.specs.ProofViews.{HasRoom, variables_around, hypotheses_around}
 use Rattle.ck_text.proofs.Rooms.{room_kept}
 
 -- # Kinds
@@ -88,7 +88,7 @@ abbrev pub Lean : ProofScope → List Frame → Type 0
 Lean outer [] = Unit {0}
 Lean outer (f ∷ stack) = (f.scope.variables ≤ outer.variables + length stack) × (f.scope.hypotheses ≤ outer.hypotheses + length stack) × Lean outer stack
 
-lean_around : (outer : ProofScope) (stack : List Frame) → Lean outer stack
+pub lean_around : (outer : ProofScope) (stack : List Frame) → Lean outer stack
     → (variables_around outer stack ≤ outer.variables + length stack) × (hypotheses_around outer stack ≤ outer.hypotheses + length stack)
 lean_around outer [] h = (omega arith, omega arith)
 lean_around outer (f ∷ stack) h = (omega (arith, h.0), omega (arith, h.1))

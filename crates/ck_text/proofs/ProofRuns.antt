@@ -1,15 +1,13 @@
 -- The run of the reader of proofs goes on by one token.
-use Rattle.std.proofs.Common.{◌≡◌, ℕ, suc, ◌+◌, ◌-◌, ◌≤◌, ◌<◌, ◌^◌, Bool, List, [], ◌∷◌, length, map, reverse, take, drop, get_or, sym, subst, ap, ◌∙◌, arith, Option, Some}
+use Rattle.std.proofs.Common.{◌≡◌, ℕ, suc, ◌+◌, ◌-◌, ◌≤◌, Bool, List, [], ◌∷◌, length, map, take, drop, get_or, sym, subst, ap, arith, Option, Some}
 use Rattle.std.proofs.lemmas.List.{take_all}
 use Rattle.ck_base.specs.declared.limits.TheConstants.{NESTING, FORMULA_DEPTH, PROOF_DEPTH}
 use Rattle.ck_text.specs.declared.scan.Placed.{Placed}
-use Rattle.ck_text.specs.declared.proof_calls.Call.{Call}
 use Rattle.ck_text.specs.Texts.{first_of}
 use Rattle.ck_text.specs.Views as expression_views
 use Rattle.ck_text.specs.ProofTexts.{ProofScope}
 use Rattle.ck_text.specs.ProofItems.{State, step, deep_here, unknown_here, after, run}
-use Rattle.ck_text.specs.ProofViews as views
-use Rattle.ck_text.proofs.ProofRooms.{Lean, Fine, fine_kept, lean_around, stack_of}
+use Rattle.ck_text.proofs.ProofRooms.{Fine, fine_kept}
 
 module _ (holes : Bool) (outer : ProofScope) where
   -- what holds after a step, with the tokens that are left

@@ -13,8 +13,6 @@ use Rattle.sorted_terms.specs.Tree.{term_tree}
 use Rattle.formulas.specs.Tree.{formula_tree}
 use Rattle.proof_terms.specs.declared.proof.Proof.{Proof}
 use Rattle.proof_terms.specs.Tree.{ProofTree, proof_tree}
-use Rattle.ck_text.specs.declared.head.Head.{Head}
-use Rattle.ck_text.specs.declared.head.Head.TheVariants as heads
 use Rattle.ck_text.specs.declared.proof_parts.Kind as code_kind
 use Rattle.ck_text.specs.declared.proof_parts.Kind.TheVariants as code_kinds
 use Rattle.ck_text.specs.declared.proof_parts.Part as code_part
@@ -54,20 +52,6 @@ parts code_lists.None = []
 parts (code_lists.One x) = part x ∷ []
 parts (code_lists.Two x y) = part x ∷ part y ∷ []
 parts (code_lists.Three x y z) = part x ∷ part y ∷ part z ∷ []
-
--- the rule takes a formula and then a proof of the same scope
-abbrev pub IsOverFormula : Head → Type 0
-IsOverFormula heads.Left = Unit {0}
-IsOverFormula heads.Right = Unit {0}
-IsOverFormula heads.Absurd = Unit {0}
-IsOverFormula h = ⊥
-
--- the rule takes two proofs
-abbrev pub IsOverProofs : Head → Type 0
-IsOverProofs heads.App = Unit {0}
-IsOverProofs heads.Pair = Unit {0}
-IsOverProofs heads.Unpack = Unit {0}
-IsOverProofs h = ⊥
 
 abbrev pub scope : code_scope.ProofScope → ProofScope
 scope s = record { names = s.names.now; variables = s.variables; hypotheses = s.hypotheses }

@@ -215,7 +215,6 @@ fn one(h: Head, x: Part) -> Proof
     }
 }
 
-// `lam`
 fn lambda(x: Part, y: Part) -> Proof
     ensures { proof_tree result ≡ spec.kept_proof (grammar.built heads.Lam (views.part x ∷ views.part y ∷ [])) }
 {
@@ -228,54 +227,76 @@ fn lambda(x: Part, y: Part) -> Proof
     Proof::Lam(a, p)
 }
 
-// `left`, `right` and `absurd`
-fn with_formula(h: Head, a: Formula, y: Part) -> Proof
-    requires { views.IsOverFormula h }
-    ensures { proof_tree result ≡ spec.kept_proof (grammar.built h (grammar.formula (formula_tree a) ∷ views.part y ∷ [])) }
+fn left_of(x: Part, y: Part) -> Proof
+    ensures { proof_tree result ≡ spec.kept_proof (grammar.built heads.Left (views.part x ∷ views.part y ∷ [])) }
 {
+    let Part::Formula(a) = x else {
+        return Proof::Hole(0);
+    };
     let Part::Proof(p) = y else {
         return Proof::Hole(0);
     };
-    match h {
-        Head::Left => Proof::LeftOf(a, p),
-        Head::Right => Proof::RightOf(a, p),
-        _ => Proof::Absurd(a, p),
-    }
+    Proof::LeftOf(a, p)
 }
 
-fn over_formula(h: Head, x: Part, y: Part) -> Proof
-    requires { views.IsOverFormula h }
-    ensures { proof_tree result ≡ spec.kept_proof (grammar.built h (views.part x ∷ views.part y ∷ [])) }
+fn right_of(x: Part, y: Part) -> Proof
+    ensures { proof_tree result ≡ spec.kept_proof (grammar.built heads.Right (views.part x ∷ views.part y ∷ [])) }
 {
-    match x {
-        Part::Formula(a) => with_formula(h, a, y),
-        _ => Proof::Hole(0),
-    }
+    let Part::Formula(a) = x else {
+        return Proof::Hole(0);
+    };
+    let Part::Proof(p) = y else {
+        return Proof::Hole(0);
+    };
+    Proof::RightOf(a, p)
 }
 
-// `app`, `pair` and `unpack`
-fn with_proof(h: Head, p: Box<Proof>, y: Part) -> Proof
-    requires { views.IsOverProofs h }
-    ensures { proof_tree result ≡ spec.kept_proof (grammar.built h (grammar.proof_term (proof_tree p.value) ∷ views.part y ∷ [])) }
+fn absurd(x: Part, y: Part) -> Proof
+    ensures { proof_tree result ≡ spec.kept_proof (grammar.built heads.Absurd (views.part x ∷ views.part y ∷ [])) }
 {
+    let Part::Formula(a) = x else {
+        return Proof::Hole(0);
+    };
+    let Part::Proof(p) = y else {
+        return Proof::Hole(0);
+    };
+    Proof::Absurd(a, p)
+}
+
+fn application(x: Part, y: Part) -> Proof
+    ensures { proof_tree result ≡ spec.kept_proof (grammar.built heads.App (views.part x ∷ views.part y ∷ [])) }
+{
+    let Part::Proof(p) = x else {
+        return Proof::Hole(0);
+    };
     let Part::Proof(q) = y else {
         return Proof::Hole(0);
     };
-    match h {
-        Head::App => Proof::App(p, q),
-        Head::Pair => Proof::Pair(p, q),
-        _ => Proof::Unpack(p, q),
-    }
+    Proof::App(p, q)
 }
 
-fn over_proofs(h: Head, x: Part, y: Part) -> Proof
-    requires { views.IsOverProofs h }
-    ensures { proof_tree result ≡ spec.kept_proof (grammar.built h (views.part x ∷ views.part y ∷ [])) }
+fn pair(x: Part, y: Part) -> Proof
+    ensures { proof_tree result ≡ spec.kept_proof (grammar.built heads.Pair (views.part x ∷ views.part y ∷ [])) }
 {
-    match x {
-        Part::Proof(p) => with_proof(h, p, y),
-        _ => Proof::Hole(0),
-    }
+    let Part::Proof(p) = x else {
+        return Proof::Hole(0);
+    };
+    let Part::Proof(q) = y else {
+        return Proof::Hole(0);
+    };
+    Proof::Pair(p, q)
+}
+
+fn unpacking(x: Part, y: Part) -> Proof
+    ensures { proof_tree result ≡ spec.kept_proof (grammar.built heads.Unpack (views.part x ∷ views.part y ∷ [])) }
+{
+    let Part::Proof(p) = x else {
+        return Proof::Hole(0);
+    };
+    let Part::Proof(q) = y else {
+        return Proof::Hole(0);
+    };
+    Proof::Unpack(p, q)
 }
 
 fn general(x: Part, y: Part) -> Proof
@@ -320,8 +341,12 @@ fn two(h: Head, x: Part, y: Part) -> Proof
 {
     match h {
         Head::Lam => lambda(x, y),
-        Head::Left | Head::Right | Head::Absurd => over_formula(h, x, y),
-        Head::App | Head::Pair | Head::Unpack => over_proofs(h, x, y),
+        Head::Left => left_of(x, y),
+        Head::Right => right_of(x, y),
+        Head::Absurd => absurd(x, y),
+        Head::App => application(x, y),
+        Head::Pair => pair(x, y),
+        Head::Unpack => unpacking(x, y),
         Head::Gen => general(x, y),
         Head::Inst => special(x, y),
         Head::Ring => ring(x, y),

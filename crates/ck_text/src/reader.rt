@@ -468,7 +468,8 @@ fn finished<'a>(
     stack: &mut List<Frame<'a>>,
     mode: Mode<'a>,
 ) -> Result<Option<Item>, NoMemory>
-    ensures { IfOk result (λ i. option_map views.item i ≡ spec.finished FORMULA_DEPTH (views.state mode.entry stack.old)) }
+    ensures few { OnOk result (length stack.new ≤ length stack.old) }
+    ensures item { IfOk result (λ i. option_map views.item i ≡ spec.finished FORMULA_DEPTH (views.state mode.entry stack.old)) }
 {
     match mode {
         Mode::Having(i) => {
