@@ -16,17 +16,24 @@ use Rattle.ck_text.proofs.Stacks.{Lasts, front, before}
 use Rattle.ck_text.proofs.Keeping.{guard_passed, step_keeps}
 use Rattle.ck_text.proofs.Shown.{item_of, scope_under, shown_state, scope_shown, step_shown, finished_shown}
 
-first_none : {A : Type 0} (o : Option A) → first_of o None ≡ o
+pub first_none : {A : Type 0} (o : Option A) → first_of o None ≡ o
 first_none (Some a) = refl
 first_none None = refl
 
-first_assoc : {A : Type 0} (o p q : Option A) → first_of (first_of o p) q ≡ first_of o (first_of p q)
+pub first_assoc : {A : Type 0} (o p q : Option A) → first_of (first_of o p) q ≡ first_of o (first_of p q)
 first_assoc (Some a) p q = refl
 first_assoc None p q = refl
 
-map_first : {A B : Type 0} (f : A → B) (o p : Option A) → option_map f (first_of o p) ≡ first_of (option_map f o) (option_map f p)
+pub map_first : {A B : Type 0} (f : A → B) (o p : Option A) → option_map f (first_of o p) ≡ first_of (option_map f o) (option_map f p)
 map_first f (Some a) p = refl
 map_first f None p = refl
+
+-- what stands behind the first that is left
+pub drop_next : (k : ℕ) (all : List Placed) (p : Placed) (placed : List Placed) → drop k all ≡ p ∷ placed → drop (suc k) all ≡ placed
+drop_next zero [] p placed e = absurd (cc)
+drop_next zero (q ∷ all) p placed e = cc
+drop_next (suc k) [] p placed e = absurd (cc)
+drop_next (suc k) (q ∷ all) p placed e = drop_next k all p placed e
 
 -- # How many tokens were read
 
@@ -50,7 +57,7 @@ front_length (texts.leading l ∷ stack) rest = omega (arith, front_length stack
 front_length (texts.operand o a ∷ stack) rest = omega (arith, front_length stack (tokens a ++ (token.joining o ∷ rest)), length-append (tokens a) (token.joining o ∷ rest))
 front_length (texts.parenthesis ∷ stack) rest = omega (arith, front_length stack (token.mark marks.Open ∷ rest))
 
-before_length : (st : texts.State) (rest : List Token) → length (before st rest) ≡ counted_state st + length rest
+pub before_length : (st : texts.State) (rest : List Token) → length (before st rest) ≡ counted_state st + length rest
 before_length (texts.wanting stack) rest = front_length stack rest
 before_length (texts.having stack a) rest = omega (arith, front_length stack (tokens a ++ rest), length-append (tokens a) rest)
 before_length (texts.naming q stack) rest = omega (arith, front_length stack (token.quantifier q ∷ rest))
@@ -117,7 +124,7 @@ module _ (most : ℕ) (asked : Bool) (scope : Bindings) where
     lead_test : Lead → List texts.Frame → Bool
     lead_test l stack = nat_le (texts.want stack) (lead_level l) && suits (texts.asks asked stack) (lead_on_terms l) && nat_lt (texts.opened stack) limit
 
-    step_missed : (st : texts.State) (t : Token) (next : texts.State) → texts.step limit asked st t ≡ Some next → Misses st t next
+    pub step_missed : (st : texts.State) (t : Token) (next : texts.State) → texts.step limit asked st t ≡ Some next → Misses st t next
     step_missed (texts.wanting stack) (token.truth b) next e = goes (texts.wanting stack) (token.truth b) (texts.having stack (truth b)) next e refl
     step_missed (texts.wanting stack) (token.mark marks.Bottom) next e = goes_guarded (texts.wanting stack) (token.mark marks.Bottom) (suits (texts.asks asked stack) false) (texts.having stack falsity) next e refl
     step_missed (texts.wanting stack) (token.word bytes) next e = goes (texts.wanting stack) (token.word bytes) (texts.having stack (name bytes)) next e refl
@@ -144,7 +151,7 @@ module _ (most : ℕ) (asked : Bool) (scope : Bindings) where
   alone_missed (texts.operand o b ∷ stack) a c e = absurd (cc)
   alone_missed (texts.parenthesis ∷ stack) a c e = absurd (cc)
 
-  finished_missed : (st : texts.State) (c : Text) → texts.finished st ≡ Some c → missed_state st ≡ unknown_at 0 scope c
+  pub finished_missed : (st : texts.State) (c : Text) → texts.finished st ≡ Some c → missed_state st ≡ unknown_at 0 scope c
   finished_missed (texts.having stack a) c e = sym (reduced_missed 0 stack a) ∙ alone_missed (texts.reduced 0 stack a).0 (texts.reduced 0 stack a).1 c e
   finished_missed st c e = absurd (cc)
 
@@ -160,16 +167,10 @@ module _ (most : ℕ) (asked : Bool) (scope : Bindings) where
     by false = refl
   word_place f s t k = refl
 
-  here_place : (f : ℕ → ℕ) (st : texts.State) (t : Token) (k left : ℕ) → f k ≡ left → option_map f (unknown_now st t k) ≡ unknown_here scope (shown_state most asked scope st) t left
+  pub here_place : (f : ℕ → ℕ) (st : texts.State) (t : Token) (k left : ℕ) → f k ≡ left → option_map f (unknown_now st t k) ≡ unknown_here scope (shown_state most asked scope st) t left
   here_place f (texts.wanting stack) t k left e =
       word_place f (scope_under most asked scope stack) t k ∙ ap₂ (λ s l. unknown_word s t l) (sym (scope_shown most asked scope stack)) e
   here_place f st t k left e = refl
-
-  drop_next : (k : ℕ) (all : List Placed) (p : Placed) (placed : List Placed) → drop k all ≡ p ∷ placed → drop (suc k) all ≡ placed
-  drop_next zero [] p placed e = absurd (cc)
-  drop_next zero (q ∷ all) p placed e = cc
-  drop_next (suc k) [] p placed e = absurd (cc)
-  drop_next (suc k) (q ∷ all) p placed e = drop_next k all p placed e
 
   -- # Runs
 

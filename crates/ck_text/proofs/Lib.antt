@@ -38,3 +38,10 @@ pub mod ProofOutcomes
 pub mod ProofRooms
 pub mod ProofCalls
 pub mod ProofRuns
+pub mod ProofLevels
+pub mod ProofNodes
+pub mod ProofKept
+pub mod ProofShown
+pub mod ProofFollowing
+pub mod ProofAnswers
+pub mod ProofReported

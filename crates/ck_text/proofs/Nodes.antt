@@ -17,7 +17,7 @@ use Rattle.ck_text.specs.Texts.{Joint, formulas, terms, joint, prefix, binder, T
 use Rattle.ck_text.specs.ReadingLaws.{TermNodes, FormulaNodes}
 
 -- the tree that is there has at most so many nodes
-abbrev HasMost : {A : Type 0} → (A → ℕ) → Option A → ℕ → Type 0
+abbrev pub HasMost : {A : Type 0} → (A → ℕ) → Option A → ℕ → Type 0
 HasMost nodes (Some a) n = nodes a ≤ n
 HasMost nodes None n = Unit {0}
 
@@ -60,7 +60,7 @@ joined_length o a b = omega (arith, length-append (tokens a) (token.joining o �
 closed_length : (a : Text) → length (tokens a) ≤ length (tokens (closed a))
 closed_length a = omega (arith, length-append (tokens a) (token.mark marks.Close ∷ []))
 
-term_most : (scope : Bindings) (a : Text) → HasMost term_size (term_of scope a) (length (tokens a))
+pub term_most : (scope : Bindings) (a : Text) → HasMost term_size (term_of scope a) (length (tokens a))
 term_most scope (truth b) = omega arith
 term_most scope falsity = tt
 term_most scope (name bytes) = name_most scope bytes
@@ -109,7 +109,7 @@ joint_most : (j : Joint) (a b : Option FormulaTree) (t : Option TermTree) (k m n
 joint_most (formulas c) a b t k m n e h i g = more size (both_of (formula.joined c) a b) (2 * (1 + m + n)) (2 * k) (omega (arith, e)) (both_most c a b m n h i)
 joint_most (terms s) a b t k m n e h i g = g
 
-formula_most : (scope : Bindings) (a : Text) → HasMost size (formula_of scope a) (2 * length (tokens a))
+pub formula_most : (scope : Bindings) (a : Text) → HasMost size (formula_of scope a) (2 * length (tokens a))
 formula_most scope (truth b) = term_formula scope (truth b)
 formula_most scope falsity = omega arith
 formula_most scope (name bytes) = term_formula scope (name bytes)

@@ -51,7 +51,7 @@ begins_with (suc k) (suc l) [] t rest h e = absurd (cc)
 begins_with (suc k) (suc l) (u ∷ ts) t rest h e = let m = begins_with k l ts t rest (omega (arith, h)) e in (m.0, ap (λ ts. u ∷ ts) m.1)
 
 -- the front of a list that ends with so much of it
-front_is : (k : ℕ) (ts front rest : List Token) → k ≤ length ts → ts ≡ front ++ rest → rest ≡ drop k ts → front ≡ take k ts
+pub front_is : (k : ℕ) (ts front rest : List Token) → k ≤ length ts → ts ≡ front ++ rest → rest ≡ drop k ts → front ≡ take k ts
 front_is k ts front rest h e r =
     let n : length front ≡ k = omega (arith, h, ap length e ∙ length-append front rest, ap length r ∙ length-drop k ts) in
     sym (take-append_seam front rest) ∙ ap (take (length front)) (sym e) ∙ ap (λ n. take n ts) n
@@ -71,7 +71,7 @@ some_map f None = refl
 -- # Texts
 
 -- what is kept of a text of the asked form
-abbrev AskedKept : ℕ → Bool → Bindings → Text → Type 0
+abbrev pub AskedKept : ℕ → Bool → Bindings → Text → Type 0
 AskedKept most asked scope a =
     (levels_asked most asked (item_of most scope a) ≡ min (text_levels asked a) (suc most))
     × ((tree : Tree) → text_levels asked a ≤ most → tree_of asked scope a ≡ Some tree → tree_asked asked (item_of most scope a) ≡ tree)
@@ -84,7 +84,7 @@ formula_asked : (o : Option FormulaTree) (made tree : Tree) → IsFormula o made
 formula_asked (Some a) made tree h e = let same : of_formula a ≡ tree = cc in ap of_formula h ∙ same
 formula_asked None made tree h e = absurd (cc)
 
-asked_kept : (limit most : ℕ) (asked : Bool) (scope : Bindings) (a : Text) → IsText limit asked a → AskedKept most asked scope a
+pub asked_kept : (limit most : ℕ) (asked : Bool) (scope : Bindings) (a : Text) → IsText limit asked a → AskedKept most asked scope a
 asked_kept limit most true scope a h =
     let k = term_kept most scope limit 0 a h.0 h.1 in
     (k.0, (λ tree l e. term_asked (term_of scope a) (item_of most scope a).tree tree (k.1 l) e))

@@ -15,16 +15,16 @@ use Rattle.ck_text.proofs.Keeping as inner_keeping
 use Rattle.ck_text.proofs.ProofTables.{head_named, IsProofKind, IsExpressionKind, proof_argument, expression_argument}
 use Rattle.ck_text.proofs.ProofStacks.{gathered_are, Sits, Lasts, front, mark_token, before, closed_front, inner_before}
 
-guard_passed : (test : Bool) (st next : State) → guarded test st ≡ Some next → (test ≡ true) × (st ≡ next)
+pub guard_passed : (test : Bool) (st next : State) → guarded test st ≡ Some next → (test ≡ true) × (st ≡ next)
 guard_passed true st next e = (refl, cc)
 guard_passed false st next e = absurd (cc)
 
-some_map : {A B : Type 0} (f : A → B) (o : Option A) (b : B) → option_map f o ≡ Some b → (a : A) × (o ≡ Some a) × (f a ≡ b)
+pub some_map : {A B : Type 0} (f : A → B) (o : Option A) (b : B) → option_map f o ≡ Some b → (a : A) × (o ≡ Some a) × (f a ≡ b)
 some_map f (Some a) b e = (a, refl, cc)
 some_map f None b e = absurd (cc)
 
 -- a term or formula that may end has just the tokens that were read
-ended_is : (limit : ℕ) (asked : Bool) (st : expression.State) (a : Text) → inner.Lasts limit asked st → expression.finished st ≡ Some a
+pub ended_is : (limit : ℕ) (asked : Bool) (st : expression.State) (a : Text) → inner.Lasts limit asked st → expression.finished st ≡ Some a
     → IsText limit asked a × ((rest : List Token) → inner.before st rest ≡ tokens a ++ rest)
 ended_is limit asked st a h e =
     let r = inner_keeping.run_is limit asked [] st a h (ap expression.or_fault e) in

@@ -72,7 +72,7 @@ built_known : (h : Head) (o : Option (List Part)) → ((parts : List Part) → o
 built_known h (Some parts) f = built_some h parts (f parts refl)
 built_known h None f = refl
 
-parts_are : (o : Option Part) (others : Option (List Part)) (parts : List Part) → parts_of o others ≡ Some parts
+pub parts_are : (o : Option Part) (others : Option (List Part)) (parts : List Part) → parts_of o others ≡ Some parts
     → (part : Part) × (rest : List Part) × (o ≡ Some part) × (others ≡ Some rest) × (part ∷ rest ≡ parts)
 parts_are (Some part) (Some rest) parts e = (part, rest, refl, refl, cc)
 parts_are (Some part) None parts e = absurd (cc)

@@ -77,10 +77,10 @@ module _ (limit proofs most : ℕ) (holes : Bool) (scope : ProofScope) (bytes : 
   abbrev ts : List Token
   ts = tokens_of bytes
 
-  abbrev IsOutcome : Result ProofTree Fault → Type 0
+  abbrev pub IsOutcome : Result ProofTree Fault → Type 0
   IsOutcome o = IsProofOutcome limit proofs most holes scope bytes o
 
-  abbrev IsWritten : ProofText → Type 0
+  abbrev pub IsWritten : ProofText → Type 0
   IsWritten p = IsProofWritten limit proofs holes bytes p
 
   abbrev Stops : ℕ → Type 0
@@ -88,17 +88,17 @@ module _ (limit proofs most : ℕ) (holes : Bool) (scope : ProofScope) (bytes : 
 
   -- # A proof
 
-  abbrev fault_or : Option ℕ → Option ℕ → Option ProofTree → Result ProofTree Fault
+  abbrev pub fault_or : Option ℕ → Option ℕ → Option ProofTree → Result ProofTree Fault
   fault_or (Some k) unknown tree = Err (by_depth (column_at bytes k))
   fault_or None (Some k) tree = Err (by_name (column_at bytes k))
   fault_or None None (Some tree) = Ok tree
   fault_or None None None = Err (by_syntax 0)
 
   -- what reading a proof comes to
-  abbrev found : ProofText → Result ProofTree Fault
+  abbrev pub found : ProofText → Result ProofTree Fault
   found p = fault_or (deep_at 0 most p) (unknown_in_proof 0 scope p) (proof_of scope p)
 
-  found_is : (p : ProofText) → IsWritten p → IsOutcome (found p)
+  pub found_is : (p : ProofText) → IsWritten p → IsOutcome (found p)
   found_is p w = by (deep_at 0 most p) (unknown_in_proof 0 scope p) (proof_of scope p) refl refl refl (means_known limit proofs holes 0 scope p w.0) where
     by : (d u : Option ℕ) (t : Option ProofTree) → deep_at 0 most p ≡ d → unknown_in_proof 0 scope p ≡ u → proof_of scope p ≡ t → is_some t ≡ is_none u → IsOutcome (fault_or d u t)
     by (Some k) u t e f g known = (p, w, k, e, refl)

@@ -73,7 +73,7 @@ form_shown most scope (led (binder q bytes s) a) = refl
 form_shown most scope (joined o a b) = joint_form most (joint o) (level o) (item_of most scope a) (item_of most scope b)
 form_shown most scope (closed a) = form_shown most scope a
 
-if_shown : {A B : Type 0} (f : A → B) (test : Bool) (x y : B) (v w : A) → x ≡ f v → y ≡ f w → (if test then x else y) ≡ f (if test then v else w)
+pub if_shown : {A B : Type 0} (f : A → B) (test : Bool) (x y : B) (v w : A) → x ≡ f v → y ≡ f w → (if test then x else y) ≡ f (if test then v else w)
 if_shown f true x y v w e h = e
 if_shown f false x y v w e h = h
 

@@ -1,10 +1,9 @@
 -- The steps of the reader of proofs over what it keeps of each argument: no texts, but the trees that they mean, with
 -- the places of the first term or formula that is too deep and of the first name or `#k` that means nothing.
-use Rattle.std.specs.Prelude.{◌≡◌, ℕ, suc, ◌+◌, ◌-◌, ◌^◌, nat_le, nat_lt, Bool, true, false, ◌&&◌, List, [], ◌∷◌, ◌++◌, length, slice_get, Some, None, Ok, Err, if◌then◌else◌}
+use Rattle.std.specs.Prelude.{ℕ, ◌-◌, ◌^◌, nat_le, nat_lt, Bool, true, false, List, [], ◌∷◌, ◌++◌, length, slice_get, Some, None, Ok, Err, if◌then◌else◌}
 use Rattle.std.specs.declared.option.Option.{Option}
 use Rattle.std.specs.declared.result.Result.{Result}
 use Rattle.std.specs.Option.{option_map}
-use Rattle.ck_base.specs.declared.decl.Sort.{Sort}
 use Rattle.proof_terms.specs.Tree.{ProofTree}
 use Rattle.proof_terms.specs.Tree as proof
 use Rattle.ck_text.specs.declared.head.Head.{Head}

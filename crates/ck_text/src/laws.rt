@@ -2,7 +2,7 @@
 
 ghost use Rattle.ck_text.specs.Laws.{FormulaMeans, FormulaReadsBack, FormulaTextIs, FormulaTextMeans, OneText, PrintedScans, ReadsExactly, SortedFormulaHasText, SortedTermHasText, TermMeans, TermReadsBack, TermTextIs, TermTextMeans, TokensAreWritten};
 ghost use Rattle.ck_text.specs.ProofLaws.{OneProof, ProofMeansKnown, ReadsProofsExactly};
-ghost use Rattle.ck_text.specs.ProofReadingLaws.{OneProofOutcome};
+ghost use Rattle.ck_text.specs.ProofReadingLaws.{OneProofOutcome, ProofLevels, ProofNodes, ReadsProofOutcomes};
 ghost use Rattle.ck_text.specs.ReadingLaws.{FormulaLevels, FormulaNodes, OneOutcome, ReadsOutcomes, TermLevels, TermNodes, UnknownNames};
 
 /// The reader reads the tokens of every text of the asked form, and no others, and where it stops no text
@@ -93,4 +93,20 @@ pub fn proof_means_by_names()
 /// Reading a text as a proof comes to one of its outcomes, and to no other.
 pub fn one_proof_outcome()
     ensures { OneProofOutcome }
+{}
+
+/// The reader of proofs over what it keeps answers what reading a text as a proof comes to, and reading comes
+/// to nothing else.
+pub fn reads_proof_outcomes()
+    ensures { ReadsProofOutcomes }
+{}
+
+/// A proof within so many levels means a proof term of at most as many.
+pub fn proof_levels()
+    ensures { ProofLevels }
+{}
+
+/// A proof term has at most twice as many nodes as its text has tokens.
+pub fn few_proof_nodes()
+    ensures { ProofNodes }
 {}
