@@ -45,3 +45,4 @@ pub mod ProofShown
 pub mod ProofFollowing
 pub mod ProofAnswers
 pub mod ProofReported
+pub mod ProofRules

@@ -26,9 +26,10 @@ if_ok (Err e) P f = tt
 module _ (holes : Bool) (scope : ProofScope) (bytes : List ℕ) where
   -- a proof term of a text has few levels, and few nodes
   extent : (tree : ProofTree) → ProofMeans NESTING PROOF_DEPTH FORMULA_DEPTH holes scope bytes tree → (proof_depth tree ≤ PROOF_DEPTH) × (proof_size tree ≤ 2 * length bytes)
-  extent tree m =
-      (proof_levels NESTING PROOF_DEPTH holes scope m.0 tree m.1.0 m.3,
-        omega (arith, proof_nodes scope m.0 tree m.3, ap length m.1.1, bare_length (scan 0 bytes), scan_length 0 bytes))
+  extent tree m = (
+    proof_levels NESTING PROOF_DEPTH holes scope m.0 tree m.1.0 m.3,
+    omega (arith, proof_nodes scope m.0 tree m.3, ap length m.1.1, bare_length (scan 0 bytes), scan_length 0 bytes),
+  )
 
   module _ (r : Result Proof TextFault) (h : ReadsProof r (read_proof_bytes NESTING PROOF_DEPTH FORMULA_DEPTH holes scope bytes)) where
     tree_means : (p : Proof) → r ≡ Ok p → ProofMeans NESTING PROOF_DEPTH FORMULA_DEPTH holes scope bytes (proof_tree p)

@@ -1,5 +1,5 @@
 -- What the reader's code keeps, as its definitions say it.
-use Rattle.ck_base.specs.declared.limits.TheConstants.{NESTING, FORMULA_DEPTH}
+use Rattle.ck_base.specs.declared.limits.TheConstants.{NESTING}
 use Rattle.std.specs.declared.result.Result.{Result}
 use Rattle.ck_text.specs.declared.text_fault.TextFault.{TextFault}
 use Rattle.ck_text.specs.declared.text_fault.TextFault.TheVariants as faults
@@ -17,9 +17,9 @@ use Rattle.ck_text.specs.declared.items.Lead.TheVariants as leads
 use Rattle.ck_text.specs.declared.items.Held as code_held
 use Rattle.ck_text.specs.declared.items.Held.TheVariants as helds
 use Rattle.ck_text.specs.declared.items.Frame as code_frame
-use Rattle.ck_text.specs.Texts.{Lead, prefix, binder, Bindings}
+use Rattle.ck_text.specs.Texts.{Lead, prefix, binder}
 use Rattle.ck_text.specs.Reading.{Tree, of_term, of_formula, Fault, by_syntax, by_depth, by_name}
-use Rattle.ck_text.specs.Items.{Item, Held, leading, operand, parenthesis, Frame, State, wanting, having, naming, named, sorting, sorted, takes, opened, step, finished, tree_asked}
+use Rattle.ck_text.specs.Items.{Item, Held, leading, operand, parenthesis, Frame, State, wanting, having, naming, named, sorting, sorted, takes, opened, tree_asked}
 use Rattle.ck_text.specs.Tokens.{Token, Placed, word, number, truth, sort, quantifier, joining, mark, none}
 use Rattle.std.specs.declared.option.Option.{Option}
 use Rattle.std.specs.Option.{option_map}
@@ -122,10 +122,9 @@ is_separator (mark marks.Comma) = true
 is_separator (mark marks.Close) = true
 is_separator t = false
 
--- A token inside a longer text goes on with the term or formula, or it is refused and the term or formula may end
--- there, or neither.
-abbrev pub Goes : (asked : Bool) → Bindings → code_going.Going → List code_frame.Frame → State → Token → Type 0
-Goes asked scope (goings.On mode) frames before t = step NESTING FORMULA_DEPTH asked scope before t ≡ Some (state mode frames)
-Goes asked scope (goings.Ended i) frames before t = (step NESTING FORMULA_DEPTH asked scope before t ≡ None) × (finished FORMULA_DEPTH before ≡ Some (item i))
-Goes asked scope goings.Refused frames before t =
-    (step NESTING FORMULA_DEPTH asked scope before t ≡ None) × (is_separator t ≡ true → finished FORMULA_DEPTH before ≡ None)
+-- What a token comes to inside a longer text: the next state; or the token is refused, and the term or formula ends
+-- before it; or neither, where `whole` is asked for at `,` and `)` alone.
+abbrev pub Goes : code_going.Going → List code_frame.Frame → (next : Option State) (whole : Option Item) (separates : Bool) → Type 0
+Goes (goings.On mode) frames next whole separates = next ≡ Some (state mode frames)
+Goes (goings.Ended i) frames next whole separates = (next ≡ None) × (whole ≡ Some (item i))
+Goes goings.Refused frames next whole separates = (next ≡ None) × (separates ≡ true → whole ≡ None)

@@ -6,7 +6,7 @@
 //! what is proved of all of them (`Laws.antt`, `ReadingLaws.antt`). `Machine.antt` has the steps of the
 //! reader over tokens, `Items.antt` the same steps over what the reader keeps of each text, and
 //! `Printers.antt` words for parts of the printer. Proofs have definitions of their own (`ProofTexts.antt`,
-//! `ProofReading.antt`, `ProofMachine.antt`, `ProofLaws.antt`); no code reads or prints them yet.
+//! `ProofReading.antt`, `ProofMachine.antt`, `ProofItems.antt`, `ProofLaws.antt`); no code prints them yet.
 #![tactic(auto)]
 
 mod digits;
@@ -32,6 +32,8 @@ pub use reading::{read_formula, read_term};
 pub use text_fault::TextFault;
 pub use token::{Mark, Prefix, Quantifier, Sign};
 
+#[cfg(test)]
+mod proof_reading_tests;
 #[cfg(test)]
 mod reading_tests;
 #[cfg(test)]

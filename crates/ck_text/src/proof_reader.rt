@@ -458,10 +458,10 @@ fn first(a: Option<usize>, b: Option<usize>) -> Option<usize>
 fn finished(calls: &[Call], stage: Stage) -> Option<Box<Proof>>
     ensures { option_map (λ p. proof_tree p.value) result ≡ spec.finished (views.state stage.entry calls.now) }
 {
-    match calls {
-        [] => match stage {
-            Stage::Complete(part) => alone(part),
-            _ => None,
+    match stage {
+        Stage::Complete(part) => match calls {
+            [] => alone(part),
+            [.., _] => None,
         },
         _ => None,
     }

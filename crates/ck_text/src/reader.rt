@@ -1,12 +1,10 @@
 //! The reader of texts over tokens.
 
-ghost use Rattle.std.specs.Prelude.{◌≡◌, suc, true, false, ◌+◌, ◌≤◌, ◌<◌, ◌^◌, ◌&&◌, nat_le, nat_lt, length, map, Bool, List, [], ◌∷◌, Some, None, IfOk, OnOk, IfErr};
+ghost use Rattle.std.specs.Prelude.{◌≡◌, suc, true, false, ◌+◌, ◌≤◌, ◌<◌, ◌^◌, ◌&&◌, nat_le, nat_lt, length, map, List, [], ◌∷◌, Some, None, IfOk, OnOk, IfErr};
 ghost use Rattle.std.specs.Option.{option_map};
 ghost use Rattle.sorted_terms.specs.Tree.{term_tree};
 ghost use Rattle.ck_base.specs.declared.limits.TheConstants.{FORMULA_DEPTH, NESTING};
 ghost use Rattle.ck_text.specs.declared.token.Prefix.TheVariants as prefixes;
-ghost use Rattle.ck_text.specs.declared.token.Mark.TheVariants as marks;
-ghost use Rattle.ck_text.specs.Tokens as token;
 ghost use Rattle.ck_text.specs.Items as spec;
 ghost use Rattle.ck_text.specs.Texts as grammar;
 ghost use Rattle.ck_text.specs.Views as views;
@@ -339,46 +337,21 @@ pub(crate) enum Going<'a> {
     Refused,
 }
 
-// A `)` inside a longer text.
-fn at_close<'a>(
-    alloc: Global,
-    stack: &mut List<Frame<'a>>,
-    mode: Mode<'a>,
-) -> Result<Going<'a>, NoMemory>
-    ensures few { OnOk result (length stack.new ≤ length stack.old) }
-    ensures state { (asked : Bool) (scope : grammar.Bindings) → IfOk result (λ g. views.Goes asked scope g stack.new (views.state mode.entry stack.old) (token.mark marks.Close)) }
+// A `)` after a text that no frame above a `(` takes.
+fn after_close<'a>(stack: &mut List<Frame<'a>>, i: Item) -> Going<'a>
+    ensures few { length stack.new ≤ length stack.old }
+    ensures state { views.Goes result stack.new (spec.closes (views.stack stack.old, views.item i)) (spec.alone (views.stack stack.old, views.item i)) true }
 {
-    match mode {
-        Mode::Having(i) => {
-            let i = reduced(alloc, stack, 0, i)?;
-            match stack.pop() {
-                Some(frame) => match frame.held {
-                    Held::Parenthesis => Ok(Going::On(Mode::Having(closed(i)))),
-                    _ => Ok(Going::Refused),
-                },
-                None => Ok(Going::Ended(i)),
-            }
-        }
-        _ => Ok(Going::Refused),
+    match stack.pop() {
+        Some(frame) => match frame.held {
+            Held::Parenthesis => Going::On(Mode::Having(closed(i))),
+            _ => Going::Refused,
+        },
+        None => Going::Ended(i),
     }
 }
 
-// A `,` inside a longer text.
-fn at_comma<'a>(
-    alloc: Global,
-    stack: &mut List<Frame<'a>>,
-    mode: Mode<'a>,
-) -> Result<Going<'a>, NoMemory>
-    ensures few { OnOk result (length stack.new ≤ length stack.old) }
-    ensures state { (asked : Bool) (scope : grammar.Bindings) → IfOk result (λ g. views.Goes asked scope g stack.new (views.state mode.entry stack.old) (token.mark marks.Comma)) }
-{
-    match finished(alloc, stack, mode)? {
-        Some(i) => Ok(Going::Ended(i)),
-        None => Ok(Going::Refused),
-    }
-}
-
-/// A token where a term or formula inside a longer text may end before `,` or `)`.
+/// A token inside a longer text, where a term or formula may end before `,` or `)`.
 pub(crate) fn go_on<'a>(
     alloc: Global,
     names: &Decls,
@@ -392,11 +365,20 @@ pub(crate) fn go_on<'a>(
     requires small { views.IsSmall (views.token t) }
     requires room { views.HasRoom (views.state mode stack.old) }
     ensures few { OnOk result (length stack.new ≤ length stack.old + 1) }
-    ensures state { IfOk result (λ g. views.Goes asked (grammar.whole_scope names.now variables) g stack.new (views.state mode.entry stack.old) (views.token t.entry)) }
+    ensures state { IfOk result (λ g. views.Goes g stack.new (spec.step NESTING FORMULA_DEPTH asked (grammar.whole_scope names.now variables) (views.state mode.entry stack.old) (views.token t.entry)) (spec.finished FORMULA_DEPTH (views.state mode.entry stack.old)) (views.is_separator (views.token t.entry))) }
 {
     match t {
-        Token::Mark(Mark::Comma) => at_comma(alloc, stack, mode),
-        Token::Mark(Mark::Close) => at_close(alloc, stack, mode),
+        Token::Mark(Mark::Comma) => match finished(alloc, stack, mode)? {
+            Some(i) => Ok(Going::Ended(i)),
+            None => Ok(Going::Refused),
+        },
+        Token::Mark(Mark::Close) => match mode {
+            Mode::Having(i) => {
+                let i = reduced(alloc, stack, 0, i)?;
+                Ok(after_close(stack, i))
+            }
+            _ => Ok(Going::Refused),
+        },
         _ => match step(alloc, names, variables, asked, stack, mode, t)? {
             Some(next) => Ok(Going::On(next)),
             None => Ok(Going::Refused),
