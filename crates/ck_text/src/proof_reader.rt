@@ -458,12 +458,21 @@ fn first(a: Option<usize>, b: Option<usize>) -> Option<usize>
 fn finished(calls: &[Call], stage: Stage) -> Option<Box<Proof>>
     ensures { option_map (λ p. proof_tree p.value) result ≡ spec.finished (views.state stage.entry calls.now) }
 {
+    match calls {
+        [] => last(stage),
+        [.., _] => None,
+    }
+}
+
+fn last(stage: Stage) -> Option<Box<Proof>>
+    ensures { option_map (λ p. proof_tree p.value) result ≡ spec.finished (views.state stage.entry []) }
+{
     match stage {
-        Stage::Complete(part) => match calls {
-            [] => alone(part),
-            [.., _] => None,
-        },
-        _ => None,
+        Stage::Complete(part) => alone(part),
+        Stage::Expecting => None,
+        Stage::Marked { .. } => None,
+        Stage::Opening(_) => None,
+        Stage::Within(_) => None,
     }
 }
 
