@@ -35,6 +35,9 @@ pub mod ProofRereading
 pub mod ProofExactness
 pub mod ProofMeanings
 pub mod ProofOutcomes
+pub mod ProofRooms
+pub mod ProofCalls
+pub mod ProofRuns
 pub mod ProofLevels
 pub mod ProofNodes
 pub mod ProofKept
@@ -44,3 +47,5 @@ pub mod ProofAnswers
 pub mod ProofRescanning
 pub mod ProofFitting
 pub mod ProofReturning
+pub mod ProofReported
+pub mod ProofRules

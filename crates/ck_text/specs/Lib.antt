@@ -17,3 +17,4 @@ pub mod ProofItems
 pub mod ProofPrinting
 pub mod ProofPrinters
 pub mod ProofPrintingLaws
+pub mod ProofViews

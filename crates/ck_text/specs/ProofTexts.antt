@@ -166,6 +166,9 @@ pub record ProofScope : Type 0 where
   pub variables : ℕ
   pub hypotheses : ℕ
 
+abbrev pub whole_proof_scope : List Decl → (variables hypotheses : ℕ) → ProofScope
+whole_proof_scope names variables hypotheses = record { names = names; variables = variables; hypotheses = hypotheses }
+
 -- the scope with further variables and hypotheses
 abbrev pub grown : (variables hypotheses : ℕ) → ProofScope → ProofScope
 grown v h scope = record { names = scope.names; variables = v + scope.variables; hypotheses = h + scope.hypotheses }

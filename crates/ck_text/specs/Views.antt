@@ -6,7 +6,7 @@ use Rattle.ck_text.specs.declared.text_fault.TextFault.TheVariants as faults
 use Rattle.ck_text.specs.declared.reader.Stop.{Stop}
 use Rattle.ck_text.specs.declared.reader.Stop.TheVariants as stops
 use Rattle.ck_text.specs.declared.scan.Placed as code_placed
-use Rattle.std.specs.Prelude.{◌≡◌, Ok, Err, ℕ, ◌<◌, ◌^◌, Bool, false, List, [], ◌∷◌, map, reverse}
+use Rattle.std.specs.Prelude.{◌≡◌, Ok, Err, Some, None, ℕ, ◌<◌, ◌^◌, Bool, true, false, List, [], ◌∷◌, map, reverse}
 use Rattle.sorted_terms.specs.Tree.{term_tree}
 use Rattle.formulas.specs.Tree.{formula_tree}
 use Rattle.ck_text.specs.declared.items.Tree as code_tree
@@ -25,6 +25,9 @@ use Rattle.std.specs.declared.option.Option.{Option}
 use Rattle.std.specs.Option.{option_map}
 use Rattle.ck_text.specs.declared.reader.Mode as code_mode
 use Rattle.ck_text.specs.declared.reader.Mode.TheVariants as modes
+use Rattle.ck_text.specs.declared.reader.Going as code_going
+use Rattle.ck_text.specs.declared.reader.Going.TheVariants as goings
+use Rattle.ck_text.specs.declared.token.Mark.TheVariants as marks
 use Rattle.ck_text.specs.declared.scan.Token as code_token
 use Rattle.ck_text.specs.declared.scan.Token.TheVariants as tokens
 
@@ -112,3 +115,16 @@ Reads asked (Err (faults.Syntax column)) outcome = outcome ≡ Err (by_syntax co
 Reads asked (Err (faults.Deep column)) outcome = outcome ≡ Err (by_depth column)
 Reads asked (Err (faults.Unknown column)) outcome = outcome ≡ Err (by_name column)
 Reads asked (Err faults.NoMemory) outcome = Unit {0}
+
+-- `,` or `)`
+abbrev pub is_separator : Token → Bool
+is_separator (mark marks.Comma) = true
+is_separator (mark marks.Close) = true
+is_separator t = false
+
+-- What a token comes to inside a longer text: the next state; or the token is refused, and the term or formula ends
+-- before it; or neither, where `whole` is asked for at `,` and `)` alone.
+abbrev pub Goes : code_going.Going → List code_frame.Frame → (next : Option State) (whole : Option Item) (separates : Bool) → Type 0
+Goes (goings.On mode) frames next whole separates = next ≡ Some (state mode frames)
+Goes (goings.Ended i) frames next whole separates = (next ≡ None) × (whole ≡ Some (item i))
+Goes goings.Refused frames next whole separates = (next ≡ None) × (separates ≡ true → whole ≡ None)

@@ -15,7 +15,11 @@ mod items;
 pub mod laws;
 mod names;
 mod printing;
+mod proof_calls;
+mod proof_parts;
 mod proof_printing;
+mod proof_reader;
+mod proof_reading;
 mod reader;
 mod reading;
 mod scan;
@@ -25,12 +29,15 @@ pub mod token;
 pub use head::Head;
 pub use printing::{print_formula, print_term};
 pub use proof_printing::print_proof;
+pub use proof_reading::read_proof;
 pub use reading::{read_formula, read_term};
 pub use text_fault::TextFault;
 pub use token::{Mark, Prefix, Quantifier, Sign};
 
 #[cfg(test)]
 mod proof_printing_tests;
+#[cfg(test)]
+mod proof_reading_tests;
 #[cfg(test)]
 mod reading_tests;
 #[cfg(test)]

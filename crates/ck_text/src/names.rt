@@ -16,9 +16,9 @@ use sorted_terms::Term;
 
 // The place of the quantifier of the stack that binds the name, or how many there are.
 fn bound_place(frames: &[Frame], name: &[u8]) -> Result<u32, u32>
-    requires { length frames.now < 2 ^ 31 }
+    requires { length frames.now < 2 ^ 32 }
     ensures found { IfOk result (λ k. grammar.place_of name.now (spec.bound_by [] (views.stack frames.now)) ≡ Some k) }
-    ensures none { IfErr result (λ n. (grammar.place_of name.now (spec.bound_by [] (views.stack frames.now)) ≡ None) × (length (spec.bound_by [] (views.stack frames.now)) ≡ n) × (n < 2 ^ 31)) }
+    ensures none { IfErr result (λ n. (grammar.place_of name.now (spec.bound_by [] (views.stack frames.now)) ≡ None) × (length (spec.bound_by [] (views.stack frames.now)) ≡ n) × (n ≤ length frames.now)) }
 {
     let mut count: u32 = 0;
     let mut rest = frames;
@@ -83,8 +83,7 @@ fn variable(variables: u32, name: &[u8]) -> Option<u32>
 
 /// What a name means where the stack waits for an operand.
 pub(crate) fn meaning(names: &Decls, variables: u32, frames: &[Frame], name: &[u8]) -> Option<Term>
-    requires few { length frames.now < 2 ^ 31 }
-    requires variables { variables < 2 ^ 31 }
+    requires indices { length frames.now + variables < 2 ^ 32 }
     ensures { option_map term_tree result ≡ grammar.meaning_of (spec.scope_at (grammar.whole_scope names.now variables) (views.stack frames.now)) name.now }
 {
     match bound_place(frames, name) {

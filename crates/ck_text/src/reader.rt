@@ -232,8 +232,7 @@ fn operand<'a>(
     stack: &mut List<Frame<'a>>,
     t: Token<'a>,
 ) -> Result<Option<Mode<'a>>, NoMemory>
-    requires few { length stack.old < 2 ^ 31 }
-    requires variables { variables < 2 ^ 31 }
+    requires indices { length stack.old + variables < 2 ^ 32 }
     requires small { views.IsSmall (views.token t) }
     ensures few { OnOk result (length stack.new ≤ length stack.old + 1) }
     ensures state { IfOk result (λ m. views.maybe_state m stack.new ≡ spec.step NESTING FORMULA_DEPTH asked (grammar.whole_scope names.now variables) (spec.wanting (views.stack stack.old)) (views.token t.entry)) }
@@ -288,8 +287,8 @@ fn bound<'a>(
     Ok(Some(Mode::Wanting))
 }
 
-// The mode after a token.
-fn step<'a>(
+/// The mode after a token.
+pub(crate) fn step<'a>(
     alloc: Global,
     names: &Decls,
     variables: u32,
@@ -298,8 +297,7 @@ fn step<'a>(
     mode: Mode<'a>,
     t: Token<'a>,
 ) -> Result<Option<Mode<'a>>, NoMemory>
-    requires few { length stack.old < 2 ^ 31 }
-    requires variables { variables < 2 ^ 31 }
+    requires indices { length stack.old + variables < 2 ^ 32 }
     requires small { views.IsSmall (views.token t) }
     requires room { views.HasRoom (views.state mode stack.old) }
     ensures few { OnOk result (length stack.new ≤ length stack.old + 1) }
@@ -332,6 +330,62 @@ fn step<'a>(
     }
 }
 
+/// What a token does to a term or formula inside a longer text: it goes on with it, or it ended before it.
+pub(crate) enum Going<'a> {
+    On(Mode<'a>),
+    Ended(Item),
+    Refused,
+}
+
+// A `)` after a text that no frame above a `(` takes.
+fn after_close<'a>(stack: &mut List<Frame<'a>>, i: Item) -> Going<'a>
+    ensures few { length stack.new ≤ length stack.old }
+    ensures state { views.Goes result stack.new (spec.closes (views.stack stack.old, views.item i)) (spec.alone (views.stack stack.old, views.item i)) true }
+{
+    match stack.pop() {
+        Some(frame) => match frame.held {
+            Held::Parenthesis => Going::On(Mode::Having(closed(i))),
+            _ => Going::Refused,
+        },
+        None => Going::Ended(i),
+    }
+}
+
+/// A token inside a longer text, where a term or formula may end before `,` or `)`.
+pub(crate) fn go_on<'a>(
+    alloc: Global,
+    names: &Decls,
+    variables: u32,
+    asked: bool,
+    stack: &mut List<Frame<'a>>,
+    mode: Mode<'a>,
+    t: Token<'a>,
+) -> Result<Going<'a>, NoMemory>
+    requires indices { length stack.old + variables < 2 ^ 32 }
+    requires small { views.IsSmall (views.token t) }
+    requires room { views.HasRoom (views.state mode stack.old) }
+    ensures few { OnOk result (length stack.new ≤ length stack.old + 1) }
+    ensures state { IfOk result (λ g. views.Goes g stack.new (spec.step NESTING FORMULA_DEPTH asked (grammar.whole_scope names.now variables) (views.state mode.entry stack.old) (views.token t.entry)) (spec.finished FORMULA_DEPTH (views.state mode.entry stack.old)) (views.is_separator (views.token t.entry))) }
+{
+    match t {
+        Token::Mark(Mark::Comma) => match finished(alloc, stack, mode)? {
+            Some(i) => Ok(Going::Ended(i)),
+            None => Ok(Going::Refused),
+        },
+        Token::Mark(Mark::Close) => match mode {
+            Mode::Having(i) => {
+                let i = reduced(alloc, stack, 0, i)?;
+                Ok(after_close(stack, i))
+            }
+            _ => Ok(Going::Refused),
+        },
+        _ => match step(alloc, names, variables, asked, stack, mode, t)? {
+            Some(next) => Ok(Going::On(next)),
+            None => Ok(Going::Refused),
+        },
+    }
+}
+
 /// What stops the reader: a token, by its place, or memory.
 pub(crate) enum Stop {
     At(usize),
@@ -349,16 +403,15 @@ impl From<NoMemory> for Stop {
     }
 }
 
-// The place of the token, where it is a name that means nothing.
-fn unknown_here(
+/// The place of the token, where it is a name that means nothing.
+pub(crate) fn unknown_here(
     names: &Decls,
     variables: u32,
     frames: &[Frame],
     mode: &Mode,
     p: Placed,
 ) -> Option<usize>
-    requires few { length frames.now < 2 ^ 31 }
-    requires variables { variables < 2 ^ 31 }
+    requires indices { length frames.now + variables < 2 ^ 32 }
     ensures { result ≡ spec.unknown_here (grammar.whole_scope names.now variables) (views.state mode.now frames.now) (views.token p.entry.token) p.entry.left }
 {
     match mode {
@@ -382,8 +435,7 @@ fn first_unknown(
     p: Placed,
     unknown: Option<usize>,
 ) -> Option<usize>
-    requires few { length frames.now < 2 ^ 31 }
-    requires variables { variables < 2 ^ 31 }
+    requires indices { length frames.now + variables < 2 ^ 32 }
     ensures { result ≡ grammar.first_of unknown (spec.unknown_here (grammar.whole_scope names.now variables) (views.state mode.now frames.now) (views.token p.entry.token) p.entry.left) }
 {
     match unknown {
@@ -398,7 +450,8 @@ fn finished<'a>(
     stack: &mut List<Frame<'a>>,
     mode: Mode<'a>,
 ) -> Result<Option<Item>, NoMemory>
-    ensures { IfOk result (λ i. option_map views.item i ≡ spec.finished FORMULA_DEPTH (views.state mode.entry stack.old)) }
+    ensures few { OnOk result (length stack.new ≤ length stack.old) }
+    ensures item { IfOk result (λ i. option_map views.item i ≡ spec.finished FORMULA_DEPTH (views.state mode.entry stack.old)) }
 {
     match mode {
         Mode::Having(i) => {
@@ -420,8 +473,7 @@ fn run(
     asked: bool,
     placed: &[Placed],
 ) -> Result<(Item, Option<usize>), Stop>
-    requires few { length placed.now < 2 ^ 31 }
-    requires variables { variables < 2 ^ 31 }
+    requires indices { length placed.now + variables < 2 ^ 32 }
     requires small { views.AreSmall (map views.placed placed.now) }
     ensures { views.Runs result (spec.run NESTING FORMULA_DEPTH asked (grammar.whole_scope names.now variables) (map views.placed placed.now) (spec.wanting []) None) }
 {
@@ -443,7 +495,8 @@ fn run(
     }
 }
 
-fn column(bytes: &[u8], left: usize) -> u32
+/// The column of the byte that has so many bytes from it to the end.
+pub(crate) fn column(bytes: &[u8], left: usize) -> u32
     requires { length bytes.now < 2 ^ 31 }
     ensures { result ≡ reading.column_of bytes.now left }
 {
@@ -459,8 +512,8 @@ fn left_of(placed: &[Placed]) -> usize
     }
 }
 
-// The levels of the asked form.
-fn levels(asked: bool, i: &Item) -> u32
+/// The levels of the asked form.
+pub(crate) fn levels(asked: bool, i: &Item) -> u32
     ensures { result ≡ spec.levels_asked FORMULA_DEPTH asked (views.item i.now) }
 {
     if asked { i.levels } else { height(i) }
