@@ -17,9 +17,9 @@ use Rattle.ck_text.specs.declared.head.Head.TheVariants as heads
 use Rattle.ck_text.specs.Texts.{Text, first_of, whole_scope, term_of, formula_of}
 use Rattle.ck_text.specs.Reading.{term_levels, formula_levels}
 use Rattle.ck_text.specs.Printing.{term_text, formula_text, TermHasText, FormulaHasText}
-use Rattle.ck_text.specs.ProofTexts.{Kind, a_sort, a_number, a_term, a_formula, a_proof, kinds, ProofText, numbered, headed, Arguments, last, more, Argument, of_sort, of_number, of_proof, argument_tokens, Part, sort, number, term, formula, proof_term, built, built_of, parts_of, proof_of, meanings_of, part_of, too_deep, deep_at, deep_among, deep_in}
+use Rattle.ck_text.specs.ProofTexts.{Kind, a_sort, a_number, a_term, a_formula, a_proof, kinds, ProofText, numbered, headed, Arguments, last, more, Argument, of_sort, of_number, of_proof, argument_tokens, Part, sort, number, term, formula, proof_term, built, built_of, parts_of, whole_proof_scope, proof_of, meanings_of, part_of, too_deep, deep_at, deep_among, deep_in}
 use Rattle.ck_text.specs.ProofPrinting.{term_argument, formula_argument, proof_text, ProofHasText, HasLowExpressions}
-use Rattle.ck_text.specs.ProofPrintingLaws.{proof_scope, ProofTextMeans, ProofReadsBack}
+use Rattle.ck_text.specs.ProofPrintingLaws.{ProofTextMeans, ProofReadsBack}
 use Rattle.ck_text.proofs.Depths.{term_levels_are, formula_levels_are}
 use Rattle.ck_text.proofs.Returning.{term_text_means, formula_text_means}
 use Rattle.ck_text.proofs.ProofRescanning.{proof_printed_scans}
@@ -30,17 +30,17 @@ module _ (names : List Decl) (are : AreNames names) where
 
   -- the written proof means the proof term in the scope, and no term or formula in it is too deep
   record Returns (v h : ℕ) (p : ProofTree) (a : ProofText) : Type 0 where
-    means : proof_of (proof_scope names v h) a ≡ Some p
+    means : proof_of (whole_proof_scope names v h) a ≡ Some p
     low : (first : ℕ) → deep_at first 256 a ≡ None
 
   -- the same of an argument
   record Gives (v h : ℕ) (k : Kind) (part : Part) (a : Argument) : Type 0 where
-    means : part_of (proof_scope names v h) k a ≡ Some part
+    means : part_of (whole_proof_scope names v h) k a ≡ Some part
     low : (first : ℕ) → deep_in first 256 k a ≡ None
 
   -- and of arguments
   record GiveAll (v h : ℕ) (ks : List Kind) (parts : List Part) (others : Arguments) : Type 0 where
-    means : meanings_of (proof_scope names v h) ks others ≡ Some parts
+    means : meanings_of (whole_proof_scope names v h) ks others ≡ Some parts
     low : (first : ℕ) → deep_among first 256 ks others ≡ None
 
   last_gives : (v h : ℕ) (k : Kind) (part : Part) (a : Argument) → Gives v h k part a → GiveAll v h (k ∷ []) (part ∷ []) (last a)
@@ -114,7 +114,7 @@ module _ (names : List Decl) (are : AreNames names) where
 
   proof_gives : (v h over under w g : ℕ) → over + v ≡ w → under + h ≡ g → (p : ProofTree) (a : ProofText) → Returns w g p a → Gives v h (a_proof over under) (proof_term p) (of_proof a)
   proof_gives v h over under w g same equal p a r = record {
-    means = ap₂ (λ x y. option_map proof_term (proof_of (proof_scope names x y) a)) same equal ∙ ap (option_map proof_term) r.means;
+    means = ap₂ (λ x y. option_map proof_term (proof_of (whole_proof_scope names x y) a)) same equal ∙ ap (option_map proof_term) r.means;
     low = r.low;
   }
 

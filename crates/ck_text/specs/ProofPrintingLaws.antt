@@ -6,13 +6,9 @@ use Rattle.proof_terms.specs.Tree.{ProofTree}
 use Rattle.proof_terms.specs.Size.{proof_depth}
 use Rattle.ck_text.specs.Tokens.{AreTokens}
 use Rattle.ck_text.specs.Reading.{tokens_of}
-use Rattle.ck_text.specs.ProofTexts.{ProofText, proof_tokens, IsProofText, ProofScope, proof_of, deep_at}
+use Rattle.ck_text.specs.ProofTexts.{ProofText, proof_tokens, IsProofText, whole_proof_scope, proof_of, deep_at}
 use Rattle.ck_text.specs.ProofReading.{ProofMeans}
 use Rattle.ck_text.specs.ProofPrinting.{proof_text, proof_printed, proof_bytes, ProofHasText, HasLowExpressions}
-
--- the scope of a whole proof under declarations, so many variables and so many hypotheses
-abbrev pub proof_scope : List Decl → (variables hypotheses : ℕ) → ProofScope
-proof_scope names v h = record { names = names; variables = v; hypotheses = h }
 
 -- the bytes of a written proof have its tokens, where these can be written
 abbrev pub ProofPrintedScans : Type 0
@@ -30,7 +26,7 @@ abbrev pub ProofTextMeans : Type 0
 ProofTextMeans =
     (names : List Decl) (variables hypotheses : ℕ) (p : ProofTree)
     → AreNames names → variables < 2 ^ 31 → proof_depth p ≤ 2048 → HasLowExpressions 256 p → ProofHasText (length names) variables hypotheses p
-    → (proof_of (proof_scope names variables hypotheses) (proof_text names variables hypotheses p) ≡ Some p)
+    → (proof_of (whole_proof_scope names variables hypotheses) (proof_text names variables hypotheses p) ≡ Some p)
     × (deep_at 0 256 (proof_text names variables hypotheses p) ≡ None)
 
 -- the printed bytes of a proof term mean it
@@ -39,4 +35,4 @@ ProofReadsBack =
     (names : List Decl) (variables hypotheses : ℕ) (p : ProofTree)
     → AreNames names → variables < 2 ^ 31 → hypotheses < 2 ^ 31
     → proof_depth p ≤ 2048 → HasLowExpressions 256 p → ProofHasText (length names) variables hypotheses p
-    → ProofMeans 512 2048 256 true (proof_scope names variables hypotheses) (proof_bytes names variables hypotheses p) p
+    → ProofMeans 512 2048 256 true (whole_proof_scope names variables hypotheses) (proof_bytes names variables hypotheses p) p

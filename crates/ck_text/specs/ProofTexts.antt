@@ -166,6 +166,7 @@ pub record ProofScope : Type 0 where
   pub variables : ℕ
   pub hypotheses : ℕ
 
+-- the scope of a proof under declarations, so many variables and so many hypotheses
 abbrev pub whole_proof_scope : List Decl → (variables hypotheses : ℕ) → ProofScope
 whole_proof_scope names variables hypotheses = record { names = names; variables = variables; hypotheses = hypotheses }
 

@@ -420,23 +420,6 @@ fn holes_are_filled(rt: HostRuntime) -> Result<(), Fail> {
     Ok(())
 }
 
-/// What `read_proof` answers to texts that are none.
-#[test]
-fn faults_have_columns(rt: HostRuntime) -> Result<(), Fail> {
-    let alloc = rt.alloc();
-    assert!(rt; has(alloc, b"lam(true #0)", b"syntax, column 10")?);
-    assert!(rt; has(alloc, b"lam(true, #0", b"syntax, column 13")?);
-    assert!(rt; has(alloc, b"given(#0)", b"syntax, column 1")?);
-    assert!(rt; has(alloc, b"axiom(4294967296)", b"syntax, column 7")?);
-    assert!(rt; has(alloc, b"gen(true, #0)", b"syntax, column 5")?);
-    assert!(rt; has(alloc, b"refl((a => b))", b"syntax, column 9")?);
-    assert!(rt; has(alloc, b"lam(true, #1)", b"unknown name, column 11")?);
-    assert!(rt; has(alloc, b"pair(refl(q), #0)", b"unknown name, column 11")?);
-    assert!(rt; has(alloc, b"gen(int, refl(_1))", b"unknown name, column 15")?);
-    assert!(rt; has(alloc, b"refl(-(1 + 2)) x", b"syntax, column 16")?);
-    Ok(())
-}
-
 /// `before` so many times, then the middle, then as many closing parentheses.
 fn nested(
     alloc: Global,
