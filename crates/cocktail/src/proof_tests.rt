@@ -102,21 +102,36 @@ fn measured(alloc: Global, p: &Proof, out: &mut Text) -> Result<(), NoMemory>
     Ok(())
 }
 
-// How many times the number is in the list.
-fn count(numbers: &[u32], k: u32) -> usize
-    ensures { result ≡ times k numbers.now }
+// The number is not in the list.
+fn is_absent(numbers: &[u32], k: u32) -> bool
+    ensures { IsTrue result → times k numbers.now ≡ 0 }
 {
     match numbers {
-        [] => 0,
-        [n, more @ ..] if *n == k => 1 + count(more, k),
-        [_, more @ ..] => count(more, k),
+        [] => true,
+        [n, more @ ..] => *n != k && is_absent(more, k),
+    }
+}
+
+// The number is at most once in the list.
+fn is_single(numbers: &[u32], k: u32) -> bool
+    ensures { IsTrue result → times k numbers.now ≤ 1 }
+{
+    match numbers {
+        [] => true,
+        [n, more @ ..] => {
+            if *n == k {
+                is_absent(more, k)
+            } else {
+                is_single(more, k)
+            }
+        }
     }
 }
 
 fn has_once(alloc: Global, p: &Proof, k: u32) -> Result<bool, NoMemory>
     ensures { IfOk result (λ once. IsTrue once → hole_count (proof_tree p.now) k ≤ 1) }
 {
-    Ok(count(holes(alloc, p)?.as_slice(), k) <= 1)
+    Ok(is_single(holes(alloc, p)?.as_slice(), k))
 }
 
 // The proof with the hole filled, or what is handed back.
