@@ -374,8 +374,55 @@ fn arithmetic(rt: HostRuntime) -> Result<(), Fail> {
     );
     assert!(rt; lacks(alloc, b"gen(int, ring(_0 + 1, _0))", 0)?);
     assert!(rt; lacks(alloc, b"ring(true, 0)", 0)?);
+    assert!(rt; lacks(alloc, b"ring(0, true)", 0)?);
     assert!(rt; lacks(alloc, b"lam(a, pair(#0, ?1))", 1)?);
     Ok(())
+}
+
+/// Weights below 2^127, and at most 4,096 products, are within the bounds of `compute` and `ring`.
+#[test]
+fn arithmetic_within_bounds(rt: HostRuntime) -> Result<(), Fail> {
+    let alloc = rt.alloc();
+    assert!(rt;
+        has(
+            alloc,
+            b"compute(85070591730234615865843651857942052863 <= 85070591730234615865843651857942052864)",
+            b"85070591730234615865843651857942052863 <= 85070591730234615865843651857942052864"
+        )?
+    );
+    assert!(rt;
+        lacks(
+            alloc,
+            b"compute(85070591730234615865843651857942052864 <= 85070591730234615865843651857942052864)",
+            0
+        )?
+    );
+    assert!(rt;
+        has(
+            alloc,
+            b"ring(85070591730234615865843651857942052863 + 0, 85070591730234615865843651857942052863)",
+            b"85070591730234615865843651857942052863 + 0 = 85070591730234615865843651857942052863"
+        )?
+    );
+    assert!(rt;
+        lacks(
+            alloc,
+            b"ring(85070591730234615865843651857942052864, 85070591730234615865843651857942052864)",
+            0
+        )?
+    );
+    // Eleven factors on each side, and then twelve.
+    let most = nested(alloc, 10, b"(x + 1) * ", b"(x + 1)", b"")?;
+    assert!(rt; equal_to_itself(alloc, most.as_bytes(), 1)?);
+    let more = nested(alloc, 11, b"(x + 1) * ", b"(x + 1)", b"")?;
+    assert!(rt; equal_to_itself(alloc, more.as_bytes(), 0)?);
+    Ok(())
+}
+
+/// `first` around `ring` of the term and itself has its fault there.
+fn equal_to_itself(alloc: Global, t: &[u8], place: u32) -> Result<bool, DeclFault> {
+    let text = joined(alloc, &[b"first(ring(", t, b", ", t, b"))"])?;
+    lacks(alloc, text.as_bytes(), place)
 }
 
 /// Each rule once.
@@ -464,6 +511,152 @@ fn deep_formulas(rt: HostRuntime) -> Result<(), Fail> {
     let text = nested(alloc, 255, b"~", b"true", b"")?;
     let text = joined(alloc, &[b"pair(refl(q), lam(", text.as_bytes(), b", #0))"])?;
     assert!(rt; has(alloc, text.as_bytes(), b"too deep, column 19")?);
+    Ok(())
+}
+
+/// Over a hypothesis of 255 levels the rule has a formula, and so the fault is at what stands around it; over one
+/// of 256 levels the rule has none.
+fn adds_a_level(alloc: Global, rule: &[u8], place: u32) -> Result<bool, DeclFault> {
+    let low = nested(alloc, 253, b"~", b"true", b"")?;
+    let high = nested(alloc, 254, b"~", b"true", b"")?;
+    Ok(
+        faulty_over(alloc, low.as_bytes(), rule, place + 1)?
+            && faulty_over(alloc, high.as_bytes(), rule, place)?,
+    )
+}
+
+fn faulty_over(alloc: Global, a: &[u8], rule: &[u8], place: u32) -> Result<bool, DeclFault> {
+    let text = joined(alloc, &[b"lam(", a, b", ", rule, b")"])?;
+    lacks(alloc, text.as_bytes(), place)
+}
+
+/// A formula of 257 levels, or of more than 16,384 nodes, is given by no rule.
+#[test]
+fn formulas_that_do_not_fit(rt: HostRuntime) -> Result<(), Fail> {
+    let alloc = rt.alloc();
+    assert!(rt; adds_a_level(alloc, b"first(gen(int, #0))", 1)?);
+    assert!(rt; adds_a_level(alloc, b"stable(pair(#0, #0))", 2)?);
+    assert!(rt; adds_a_level(alloc, b"first(left(a, #0))", 1)?);
+    assert!(rt; adds_a_level(alloc, b"first(right(a, #0))", 1)?);
+    Ok(())
+}
+
+#[test]
+fn existential_formulas_that_do_not_fit(rt: HostRuntime) -> Result<(), Fail> {
+    let alloc = rt.alloc();
+    let low = nested(alloc, 253, b"~", b"true", b"")?;
+    let rule = joined(alloc, &[b"first(pack(int, ", low.as_bytes(), b", 0, #0))"])?;
+    assert!(rt; faulty_over(alloc, low.as_bytes(), rule.as_bytes(), 2)?);
+    let high = nested(alloc, 254, b"~", b"true", b"")?;
+    let rule = joined(alloc, &[b"first(pack(int, ", high.as_bytes(), b", 0, #0))"])?;
+    assert!(rt; faulty_over(alloc, high.as_bytes(), rule.as_bytes(), 1)?);
+    Ok(())
+}
+
+#[test]
+fn equations_that_do_not_fit(rt: HostRuntime) -> Result<(), Fail> {
+    let alloc = rt.alloc();
+    let low = nested(alloc, 253, b"", b"0", b" + 1")?;
+    let high = nested(alloc, 254, b"", b"0", b" + 1")?;
+    assert!(rt; faulty_around(alloc, &[b"refl(", low.as_bytes(), b")"], 1)?);
+    assert!(rt; faulty_around(alloc, &[b"refl(", high.as_bytes(), b")"], 0)?);
+    assert!(rt; equal_to_itself(alloc, low.as_bytes(), 1)?);
+    assert!(rt; equal_to_itself(alloc, high.as_bytes(), 0)?);
+    assert!(rt; faulty_around(alloc, &[b"compute(0 <= ", low.as_bytes(), b")"], 1)?);
+    assert!(rt; faulty_around(alloc, &[b"compute(0 <= ", high.as_bytes(), b")"], 0)?);
+    Ok(())
+}
+
+/// `first` around the rule has its fault there.
+fn faulty_around(alloc: Global, rule: &[&[u8]], place: u32) -> Result<bool, DeclFault> {
+    let rule = joined(alloc, rule)?;
+    let text = joined(alloc, &[b"first(", rule.as_bytes(), b")"])?;
+    lacks(alloc, text.as_bytes(), place)
+}
+
+/// A term of four levels in place of a variable at level 253 fits, and one of five does not.
+#[test]
+fn instances_that_do_not_fit(rt: HostRuntime) -> Result<(), Fail> {
+    let alloc = rt.alloc();
+    let all = nested(alloc, 250, b"~", b"(y = 0)", b"")?;
+    let all = joined(alloc, &[b"all y. ", all.as_bytes()])?;
+    assert!(rt; faulty_over(alloc, all.as_bytes(), b"first(inst(#0, x + 1 + 1 + 1))", 2)?);
+    assert!(rt;
+        faulty_over(
+            alloc,
+            all.as_bytes(),
+            b"first(inst(#0, x + 1 + 1 + 1 + 1))",
+            1
+        )?
+    );
+    let rule = nested(alloc, 250, b"~", b"(_0 = 0)", b"")?;
+    let given = nested(alloc, 250, b"~", b"(0 = 0)", b"")?;
+    assert!(rt;
+        rewritten(
+            alloc,
+            b"x + 1 + 1 + 1",
+            given.as_bytes(),
+            rule.as_bytes(),
+            3
+        )?
+    );
+    assert!(rt;
+        rewritten(
+            alloc,
+            b"x + 1 + 1 + 1 + 1",
+            given.as_bytes(),
+            rule.as_bytes(),
+            2
+        )?
+    );
+    // In the induction form it stands five levels lower, with a term of one level more.
+    let low = nested(alloc, 247, b"~", b"(0 <= _0)", b"")?;
+    assert!(rt; faulty_around(alloc, &[b"induct(", low.as_bytes(), b")"], 1)?);
+    let high = nested(alloc, 248, b"~", b"(0 <= _0)", b"")?;
+    assert!(rt; faulty_around(alloc, &[b"induct(", high.as_bytes(), b")"], 0)?);
+    Ok(())
+}
+
+/// What was given of 0 is rewritten by 0 = t, with `first` around it, and has its fault there.
+fn rewritten(
+    alloc: Global,
+    t: &[u8],
+    given: &[u8],
+    rule: &[u8],
+    place: u32,
+) -> Result<bool, DeclFault> {
+    let rule = joined(alloc, &[b"rewrite(", rule, b", #0, #1)"])?;
+    let text = joined(
+        alloc,
+        &[
+            b"lam(0 = ",
+            t,
+            b", lam(",
+            given,
+            b", first(",
+            rule.as_bytes(),
+            b")))",
+        ],
+    )?;
+    lacks(alloc, text.as_bytes(), place)
+}
+
+/// 12,287 nodes fit, and twice as many do not.
+#[test]
+fn large_formulas_of_proofs(rt: HostRuntime) -> Result<(), Fail> {
+    let alloc = rt.alloc();
+    let mut tree = joined(alloc, &[b"a"])?;
+    for _ in 0..12 {
+        tree = joined(
+            alloc,
+            &[b"(", tree.as_bytes(), b" => ", tree.as_bytes(), b")"],
+        )?;
+    }
+    let rule = joined(alloc, &[b"first(absurd(", tree.as_bytes(), b", #0))"])?;
+    assert!(rt; faulty_over(alloc, b"bottom", rule.as_bytes(), 2)?);
+    let tree = joined(alloc, &[tree.as_bytes(), b" => ", tree.as_bytes()])?;
+    let rule = joined(alloc, &[b"first(absurd(", tree.as_bytes(), b", #0))"])?;
+    assert!(rt; faulty_over(alloc, b"bottom", rule.as_bytes(), 1)?);
     Ok(())
 }
 

@@ -13,3 +13,4 @@ pub mod Subproofs
 pub mod Exact
 pub mod Firsts
 pub mod Answered
+pub mod Linked

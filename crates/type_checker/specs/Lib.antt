@@ -4,6 +4,8 @@ pub mod Place
 pub mod Same
 pub mod Rules
 pub mod Walk
+pub mod Interner
+pub mod Linked
 pub mod Found
 pub mod Gives
 pub mod Scope

@@ -3,7 +3,9 @@
 ghost use Rattle.std.specs.Prelude.{◌≡◌};
 ghost use Rattle.formulas.specs.Tree.{formula_tree};
 ghost use Rattle.type_checker.specs.Found.{found_tree, head_tree};
+ghost use Rattle.type_checker.specs.Interner.{formula_at};
 
+use crate::interner::Interner;
 use crate::typed::Found;
 use ck_base::Sort;
 use formulas::Formula;
@@ -23,12 +25,13 @@ pub enum Head<'f> {
 }
 
 /// The found formula, opened by one level. It takes no memory.
-pub fn opened(f: Found) -> Head
-    ensures { head_tree result ≡ found_tree f.entry }
+pub fn opened<'f>(interner: &Interner<'f>, f: Found<'f>) -> Head<'f>
+    ensures { head_tree interner.now result ≡ found_tree interner.now f.entry }
 {
     match f {
-        Found::Known(a) => known_head(a),
-        Found::Built(a) => built_head(a),
+        Found::Interned(number) => interned_head(interner, number),
+        Found::Known(a) => known_head(interner, a),
+        Found::Built(a) => built_head(interner, a),
         Found::Imp(a, b) => Head::Imp(Box::into_inner(a), Box::into_inner(b)),
         Found::Conj(a, b) => Head::Conj(Box::into_inner(a), Box::into_inner(b)),
         Found::Disj(a, b) => Head::Disj(Box::into_inner(a), Box::into_inner(b)),
@@ -37,8 +40,28 @@ pub fn opened(f: Found) -> Head
     }
 }
 
-fn known_head(a: &Formula) -> Head
-    ensures { head_tree result ≡ formula_tree a.now }
+// The formula with that number. Its parts are known by theirs.
+fn interned_head<'f>(interner: &Interner<'f>, number: u32) -> Head<'f>
+    ensures { head_tree interner.now result ≡ formula_at interner.now number }
+{
+    let Some(entry) = interner.entry(number) else {
+        return Head::Bottom;
+    };
+    let left = Found::Interned(entry.left);
+    let right = Found::Interned(entry.right);
+    match entry.formula {
+        Formula::Bottom => Head::Bottom,
+        Formula::Holds(t) => Head::Holds(t),
+        Formula::Imp(_, _) => Head::Imp(left, right),
+        Formula::Conj(_, _) => Head::Conj(left, right),
+        Formula::Disj(_, _) => Head::Disj(left, right),
+        Formula::All(sort, _) => Head::All(*sort, left),
+        Formula::Ex(sort, _) => Head::Ex(*sort, left),
+    }
+}
+
+fn known_head<'f>(interner: &Interner<'f>, a: &'f Formula) -> Head<'f>
+    ensures { head_tree interner.now result ≡ formula_tree a.now }
 {
     match a {
         Formula::Bottom => Head::Bottom,
@@ -51,8 +74,8 @@ fn known_head(a: &Formula) -> Head
     }
 }
 
-fn built_head<'f>(a: Formula) -> Head<'f>
-    ensures { head_tree result ≡ formula_tree a }
+fn built_head<'f>(interner: &Interner<'f>, a: Formula) -> Head<'f>
+    ensures { head_tree interner.now result ≡ formula_tree a }
 {
     match a {
         Formula::Bottom => Head::Bottom,

@@ -12,7 +12,9 @@ ghost use Rattle.type_checker.specs.Found.{found_tree};
 ghost use Rattle.type_checker.specs.Rules.{fitting};
 ghost use Rattle.type_checker.specs.Same.{same_formula};
 
-use crate::typed::{Found, matches, owned};
+use crate::interner::Interner;
+use crate::matching::matches;
+use crate::typed::{Found, as_formula, owned};
 use ck_base::{Decls, NoMemory, Sort};
 use formulas::{Formula, fits_instance, instantiate};
 use sorted_terms::{Term, Variables, sort_under};
@@ -40,48 +42,38 @@ pub fn instance_of(alloc: Global, a: &Formula, t: &Term) -> Result<Option<Formul
     Ok(Some(instantiate(alloc, a, t, 0)?))
 }
 
-/// The same, as a found formula.
-pub fn built_instance<'f>(
-    alloc: Global,
-    a: &Formula,
-    t: &Term,
-) -> Result<Option<Found<'f>>, NoMemory>
-    requires { fits (instance (formula_tree a.now) (term_tree t.now) 0) ≡ true → HasIndicesBelow (2 ^ 32) (instance (formula_tree a.now) (term_tree t.now) 0) }
-    ensures { IfOk result (λ o. option_map found_tree o ≡ fitting (Some (instance (formula_tree a.now) (term_tree t.now) 0))) }
-{
-    match instance_of(alloc, a, t)? {
-        Some(a) => Ok(Some(Found::Built(a))),
-        None => Ok(None),
-    }
-}
-
 /// The same of a found formula.
 pub fn found_instance<'f>(
     alloc: Global,
+    interner: &Interner<'f>,
     a: Found<'f>,
     t: &Term,
-) -> Result<Option<Found<'f>>, NoMemory>
-    requires { fits (instance (found_tree a) (term_tree t.now) 0) ≡ true → HasIndicesBelow (2 ^ 32) (instance (found_tree a) (term_tree t.now) 0) }
-    ensures { IfOk result (λ o. option_map found_tree o ≡ fitting (Some (instance (found_tree a.entry) (term_tree t.now) 0))) }
+) -> Result<Option<Formula>, NoMemory>
+    requires { fits (instance (found_tree interner.now a) (term_tree t.now) 0) ≡ true → HasIndicesBelow (2 ^ 32) (instance (found_tree interner.now a) (term_tree t.now) 0) }
+    ensures { IfOk result (λ o. option_map formula_tree o ≡ fitting (Some (instance (found_tree interner.now a.entry) (term_tree t.now) 0))) }
 {
-    match a {
-        Found::Known(a) => built_instance(alloc, a, t),
-        a => {
-            let a = owned(alloc, a)?;
-            built_instance(alloc, &a, t)
-        }
+    if let Some(a) = as_formula(interner, &a) {
+        return instance_of(alloc, a, t);
     }
+    let a = owned(alloc, interner, a)?;
+    instance_of(alloc, &a, t)
 }
 
 /// Whether the found formula, which fits, is the formula with the term in place of index 0.
 #[tactic(auto, using(crate::proofs::Ruled::unfit_differs))]
-pub fn is_instance(alloc: Global, a: &Formula, t: &Term, f: &Found) -> Result<bool, NoMemory>
+pub fn is_instance(
+    alloc: Global,
+    interner: &Interner,
+    a: &Formula,
+    t: &Term,
+    f: &Found,
+) -> Result<bool, NoMemory>
     requires room { fits (instance (formula_tree a.now) (term_tree t.now) 0) ≡ true → HasIndicesBelow (2 ^ 32) (instance (formula_tree a.now) (term_tree t.now) 0) }
-    requires fitting { fits (found_tree f.now) ≡ true }
-    ensures { IfOk result (λ b. b ≡ same_formula (instance (formula_tree a.now) (term_tree t.now) 0) (found_tree f.now)) }
+    requires fitting { fits (found_tree interner.now f.now) ≡ true }
+    ensures { IfOk result (λ b. b ≡ same_formula (instance (formula_tree a.now) (term_tree t.now) 0) (found_tree interner.now f.now)) }
 {
     let Some(b) = instance_of(alloc, a, t)? else {
         return Ok(false);
     };
-    Ok(matches(&b, f))
+    Ok(matches(interner, &b, f))
 }

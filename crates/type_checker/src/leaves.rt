@@ -16,8 +16,9 @@ ghost use Rattle.type_checker.specs.Place.{AreAssumable};
 ghost use Rattle.type_checker.specs.Rules as rules;
 ghost use Rattle.type_checker.specs.Scope.{hypotheses_under, variables_over};
 
-use crate::fitting::fitted;
 use crate::instances::is_of;
+use crate::interner::Interner;
+use crate::making::built;
 use crate::scope::{Scope, hypothesis};
 use crate::typed::Found;
 use arith_axioms::{NoRing, axiom, compute, induction, ring};
@@ -33,42 +34,43 @@ use std::alloc::Global;
 #[tactic(auto, using(crate::proofs::Ruled::hypothesis_kept, crate::proofs::Ruled::hypotheses_room))]
 pub fn of_leaf<'f>(
     alloc: Global,
+    interner: &Interner<'f>,
     decls: &Decls,
     variables: &Variables,
     scope: &Scope<'f, '_>,
     p: &'f Proof,
 ) -> Result<Option<Found<'f>>, NoMemory>
-    requires assumed { AreAssumable decls.now (sorts_in variables.now) (hypotheses_under scope.now) }
+    requires assumed { AreAssumable decls.now (sorts_in variables.now) (hypotheses_under interner.now scope.now) }
     requires over { variables_over scope.now ≤ length (sorts_in variables.now) }
     requires few { length (sorts_in variables.now) < 2 ^ 31 + 2 ^ 30 }
-    ensures { IfOk result (λ o. option_map found_tree o ≡ rules.fitting (rules.of_leaf decls.now (sorts_in variables.now) (hypotheses_under scope.now) (proof_tree p.now))) }
+    ensures { IfOk result (λ o. option_map (found_tree interner.now) o ≡ rules.fitting (rules.of_leaf decls.now (sorts_in variables.now) (hypotheses_under interner.now scope.now) (proof_tree p.now))) }
 {
     match p {
-        Proof::Hyp(index) => hypothesis(alloc, scope, *index),
-        Proof::Refl(t) => reflexive(alloc, decls, variables, t),
-        Proof::Axiom(i) => axiom_found(alloc, *i),
-        Proof::Induct(a) => induction_found(alloc, decls, variables, a),
-        Proof::Compute(t) => computed(alloc, decls, variables, t),
-        Proof::Ring(s, t) => ring_found(alloc, decls, variables, s, t),
+        Proof::Hyp(index) => hypothesis(alloc, interner, scope, *index),
+        Proof::Refl(t) => Ok(built(interner, reflexive(alloc, decls, variables, t)?)),
+        Proof::Axiom(i) => Ok(built(interner, axiom_formula(alloc, *i)?)),
+        Proof::Induct(a) => Ok(built(interner, induction_formula(alloc, decls, variables, a)?)),
+        Proof::Compute(t) => Ok(built(interner, computed(alloc, decls, variables, t)?)),
+        Proof::Ring(s, t) => Ok(built(interner, ring_formula(alloc, decls, variables, s, t)?)),
         _ => Ok(None),
     }
 }
 
 // An integer term is equal to itself.
-fn reflexive<'f>(
+fn reflexive(
     alloc: Global,
     decls: &Decls,
     variables: &Variables,
     t: &Term,
-) -> Result<Option<Found<'f>>, NoMemory>
-    ensures { IfOk result (λ o. option_map found_tree o ≡ rules.fitting (rules.given (has_sort (sort_of decls.now (sorts_in variables.now) (term_tree t.now)) sorts.Int) (holds (binary equal (term_tree t.now) (term_tree t.now))))) }
+) -> Result<Option<Formula>, NoMemory>
+    ensures { IfOk result (λ o. option_map formula_tree o ≡ rules.fitting (rules.given (has_sort (sort_of decls.now (sorts_in variables.now) (term_tree t.now)) sorts.Int) (holds (binary equal (term_tree t.now) (term_tree t.now))))) }
 {
     if !is_of(decls, variables, t, Sort::Int) || !fits_equation(t, t) {
         return Ok(None);
     }
     let left = Box::new(alloc, copy(alloc, t)?)?;
     let right = Box::new(alloc, copy(alloc, t)?)?;
-    Ok(Some(Found::Built(Formula::Holds(Term::Eq(left, right)))))
+    Ok(Some(Formula::Holds(Term::Eq(left, right))))
 }
 
 // Whether the equation of the terms fits.
@@ -82,45 +84,51 @@ fn fits_equation(s: &Term, t: &Term) -> bool
     }
 }
 
-fn axiom_found<'f>(alloc: Global, i: u32) -> Result<Option<Found<'f>>, NoMemory>
-    ensures { IfOk result (λ o. option_map found_tree o ≡ rules.fitting (axiom_at i)) }
+fn where_it_fits(a: Formula) -> Option<Formula>
+    ensures { option_map formula_tree result ≡ rules.fitting (Some (formula_tree a)) }
+{
+    if fits(&a) { Some(a) } else { None }
+}
+
+fn axiom_formula(alloc: Global, i: u32) -> Result<Option<Formula>, NoMemory>
+    ensures { IfOk result (λ o. option_map formula_tree o ≡ rules.fitting (axiom_at i)) }
 {
     match axiom(alloc, i)? {
-        Some(a) => Ok(fitted(Found::Built(a))),
+        Some(a) => Ok(where_it_fits(a)),
         None => Ok(None),
     }
 }
 
 // The induction form. It has a few times the nodes of its formula, which is looked at first.
 #[tactic(auto, using(crate::proofs::Ruled::unfit_induction))]
-fn induction_found<'f>(
+fn induction_formula(
     alloc: Global,
     decls: &Decls,
     variables: &Variables,
     a: &Formula,
-) -> Result<Option<Found<'f>>, NoMemory>
-    ensures { IfOk result (λ o. option_map found_tree o ≡ rules.fitting (rules.given (well_sorted decls.now (sorts.Int ∷ sorts_in variables.now) (formula_tree a.now)) (induction_form (formula_tree a.now)))) }
+) -> Result<Option<Formula>, NoMemory>
+    ensures { IfOk result (λ o. option_map formula_tree o ≡ rules.fitting (rules.given (well_sorted decls.now (sorts.Int ∷ sorts_in variables.now) (formula_tree a.now)) (induction_form (formula_tree a.now)))) }
 {
     let under = Variables::Under(Sort::Int, &*variables);
     if !fits(a) || !well_sorted_under(decls, &under, a) {
         return Ok(None);
     }
-    Ok(fitted(Found::Built(induction(alloc, a)?)))
+    Ok(where_it_fits(induction(alloc, a)?))
 }
 
 // A term whose computed value is true.
-fn computed<'f>(
+fn computed(
     alloc: Global,
     decls: &Decls,
     variables: &Variables,
     t: &Term,
-) -> Result<Option<Found<'f>>, NoMemory>
-    ensures { IfOk result (λ o. option_map found_tree o ≡ rules.fitting (rules.given (has_sort (sort_of decls.now (sorts_in variables.now) (term_tree t.now)) sorts.Bool && rules.computes (computing (term_tree t.now))) (holds (term_tree t.now)))) }
+) -> Result<Option<Formula>, NoMemory>
+    ensures { IfOk result (λ o. option_map formula_tree o ≡ rules.fitting (rules.given (has_sort (sort_of decls.now (sorts_in variables.now) (term_tree t.now)) sorts.Bool && rules.computes (computing (term_tree t.now))) (holds (term_tree t.now)))) }
 {
     if !fits_alone(t) || !is_of(decls, variables, t, Sort::Bool) || !is_computed(t) {
         return Ok(None);
     }
-    Ok(Some(Found::Built(Formula::Holds(copy(alloc, t)?))))
+    Ok(Some(Formula::Holds(copy(alloc, t)?)))
 }
 
 // Whether the term fits as a formula.
@@ -138,14 +146,14 @@ fn is_computed(t: &Term) -> bool
 }
 
 // Two integer terms that are the same polynomial are equal.
-fn ring_found<'f>(
+fn ring_formula(
     alloc: Global,
     decls: &Decls,
     variables: &Variables,
     s: &Term,
     t: &Term,
-) -> Result<Option<Found<'f>>, NoMemory>
-    ensures { IfOk result (λ o. option_map found_tree o ≡ rules.fitting (rules.given (has_sort (sort_of decls.now (sorts_in variables.now) (term_tree s.now)) sorts.Int && (has_sort (sort_of decls.now (sorts_in variables.now) (term_tree t.now)) sorts.Int && rules.is_ring_equation (term_tree s.now) (term_tree t.now))) (holds (binary equal (term_tree s.now) (term_tree t.now))))) }
+) -> Result<Option<Formula>, NoMemory>
+    ensures { IfOk result (λ o. option_map formula_tree o ≡ rules.fitting (rules.given (has_sort (sort_of decls.now (sorts_in variables.now) (term_tree s.now)) sorts.Int && (has_sort (sort_of decls.now (sorts_in variables.now) (term_tree t.now)) sorts.Int && rules.is_ring_equation (term_tree s.now) (term_tree t.now))) (holds (binary equal (term_tree s.now) (term_tree t.now))))) }
 {
     if !fits_equation(s, t)
         || !are_integers(decls, variables, s, t)
@@ -155,7 +163,7 @@ fn ring_found<'f>(
     }
     let left = Box::new(alloc, copy(alloc, s)?)?;
     let right = Box::new(alloc, copy(alloc, t)?)?;
-    Ok(Some(Found::Built(Formula::Holds(Term::Eq(left, right)))))
+    Ok(Some(Formula::Holds(Term::Eq(left, right))))
 }
 
 fn are_integers(decls: &Decls, variables: &Variables, s: &Term, t: &Term) -> bool

@@ -3,15 +3,19 @@
 //! It stands on `proof_terms` and `arith_axioms`. Its definition is the typing relation (`specs/Typing.antt`),
 //! and the place of a fault is defined in `specs/Place.antt`. The rules computed (`specs/Rules.antt`,
 //! `specs/Walk.antt`) are what the code follows; that they tell the same, and that typing is sound, are laws
-//! (`laws`).
+//! (`laws`). The formulas that a proof names have numbers (`interner`, `specs/Interner.antt`), so that equal
+//! ones are not looked at again.
 #![tactic(auto)]
 
 mod fitting;
+mod gather;
 mod heads;
 mod instances;
+mod interner;
 pub mod laws;
 mod leaves;
 mod making;
+mod matching;
 mod nodes;
 mod rules;
 mod scope;

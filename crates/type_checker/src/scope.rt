@@ -8,7 +8,8 @@ ghost use Rattle.formulas.specs.Context.{AllIndicesBelow, hypotheses_of};
 ghost use Rattle.type_checker.specs.Found.{found_tree};
 ghost use Rattle.type_checker.specs.Scope.{assumed_tree, hypotheses_under, variables_over};
 
-use crate::typed::{Found, copied};
+use crate::interner::Interner;
+use crate::typed::{Found, as_formula, copied};
 use ck_base::NoMemory;
 use formulas::{Context, Formula, shift};
 use std::alloc::Global;
@@ -35,24 +36,29 @@ pub enum Assumed<'f, 's> {
 #[tactic(auto, using(crate::proofs::Raising::held_below))]
 pub fn hypothesis<'f>(
     alloc: Global,
+    interner: &Interner<'f>,
     scope: &Scope<'f, '_>,
     index: u32,
 ) -> Result<Option<Found<'f>>, NoMemory>
-    requires room { AllIndicesBelow (2 ^ 32) (hypotheses_under scope.now) }
+    requires room { AllIndicesBelow (2 ^ 32) (hypotheses_under interner.now scope.now) }
     requires few { variables_over scope.now < 2 ^ 32 }
-    ensures { IfOk result (λ o. option_map found_tree o ≡ slice_get (hypotheses_under scope.now) index) }
+    ensures { IfOk result (λ o. option_map (found_tree interner.now) o ≡ slice_get (hypotheses_under interner.now scope.now) index) }
 {
-    let Some((assumed, passed)) = held(scope, index) else {
+    let Some((assumed, passed)) = held(interner, scope, index) else {
         return Ok(None);
     };
-    Ok(Some(raised(alloc, assumed, passed)?))
+    Ok(Some(raised(alloc, interner, assumed, passed)?))
 }
 
 // The hypothesis of that index as it stood, and how many variables were bound since.
 #[tactic(auto, using(crate::proofs::Raising::get_raised, crate::proofs::Raising::shift_none, crate::proofs::Lowering::shifted_again))]
-fn held<'f, 's>(scope: &Scope<'f, 's>, index: u32) -> Option<(Assumed<'f, 's>, u32)>
+fn held<'f, 's>(
+    interner: &Interner<'f>,
+    scope: &Scope<'f, 's>,
+    index: u32,
+) -> Option<(Assumed<'f, 's>, u32)>
     requires { variables_over scope.now < 2 ^ 32 }
-    ensures found { option_map (λ r. shifted (assumed_tree r.0) r.1 0) result ≡ slice_get (hypotheses_under scope.now) index }
+    ensures found { option_map (λ r. shifted (assumed_tree interner.now r.0) r.1 0) result ≡ slice_get (hypotheses_under interner.now scope.now) index }
     ensures few { IfSome result (λ r. r.1 ≤ variables_over scope.now) }
 {
     match scope {
@@ -62,10 +68,10 @@ fn held<'f, 's>(scope: &Scope<'f, 's>, index: u32) -> Option<(Assumed<'f, 's>, u
         }
         Scope::Under(a, rest) => match index.checked_sub(1) {
             None => Some((Assumed::Found(a), 0)),
-            Some(index) => held(rest, index),
+            Some(index) => held(interner, rest, index),
         },
         Scope::Over(rest) => {
-            let (assumed, passed) = held(rest, index)?;
+            let (assumed, passed) = held(interner, rest, index)?;
             Some((assumed, passed + 1))
         }
     }
@@ -84,28 +90,53 @@ fn newest<'a>(context: &'a Context, index: u32) -> Option<&'a Formula>
 }
 
 // The hypothesis under `by` more variables.
-#[tactic(auto, using(crate::proofs::Raising::shift_none))]
-fn raised<'f>(alloc: Global, assumed: Assumed<'f, '_>, by: u32) -> Result<Found<'f>, NoMemory>
-    requires { HasIndicesBelow (2 ^ 32) (shifted (assumed_tree assumed) by 0) }
-    ensures { IfOk result (λ r. found_tree r ≡ shifted (assumed_tree assumed.entry) by 0) }
+fn raised<'f>(
+    alloc: Global,
+    interner: &Interner<'f>,
+    assumed: Assumed<'f, '_>,
+    by: u32,
+) -> Result<Found<'f>, NoMemory>
+    requires { HasIndicesBelow (2 ^ 32) (shifted (assumed_tree interner.now assumed) by 0) }
+    ensures { IfOk result (λ r. found_tree interner.now r ≡ shifted (assumed_tree interner.now assumed.entry) by 0) }
 {
     match assumed {
-        Assumed::Given(a) => raised_known(alloc, a, by),
-        Assumed::Found(Found::Known(a)) => raised_known(alloc, a, by),
-        Assumed::Found(a) => {
-            let a = copied(alloc, a)?;
-            if by == 0 {
-                return Ok(Found::Built(a));
-            }
-            Ok(Found::Built(shift(alloc, &a, by, 0)?))
-        }
+        Assumed::Given(a) => raised_known(alloc, interner, a, by),
+        Assumed::Found(a) => raised_found(alloc, interner, a, by),
     }
 }
 
 #[tactic(auto, using(crate::proofs::Raising::shift_none))]
-fn raised_known<'f>(alloc: Global, a: &'f Formula, by: u32) -> Result<Found<'f>, NoMemory>
+fn raised_found<'f>(
+    alloc: Global,
+    interner: &Interner<'f>,
+    a: &Found<'f>,
+    by: u32,
+) -> Result<Found<'f>, NoMemory>
+    requires { HasIndicesBelow (2 ^ 32) (shifted (found_tree interner.now a.now) by 0) }
+    ensures { IfOk result (λ r. found_tree interner.now r ≡ shifted (found_tree interner.now a.now) by 0) }
+{
+    if let (Found::Interned(number), 0) = (a, by) {
+        return Ok(Found::Interned(*number));
+    }
+    if let Some(a) = as_formula(interner, a) {
+        return raised_known(alloc, interner, a, by);
+    }
+    let a = copied(alloc, interner, a)?;
+    if by == 0 {
+        return Ok(Found::Built(a));
+    }
+    Ok(Found::Built(shift(alloc, &a, by, 0)?))
+}
+
+#[tactic(auto, using(crate::proofs::Raising::shift_none))]
+fn raised_known<'f>(
+    alloc: Global,
+    interner: &Interner<'f>,
+    a: &'f Formula,
+    by: u32,
+) -> Result<Found<'f>, NoMemory>
     requires { HasIndicesBelow (2 ^ 32) (shifted (formula_tree a.now) by 0) }
-    ensures { IfOk result (λ r. found_tree r ≡ shifted (formula_tree a.now) by 0) }
+    ensures { IfOk result (λ r. found_tree interner.now r ≡ shifted (formula_tree a.now) by 0) }
 {
     if by == 0 {
         return Ok(Found::Known(a));

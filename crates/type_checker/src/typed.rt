@@ -1,18 +1,20 @@
 //! A formula that the walk found, without a copy of what the proof and its context say.
 
-ghost use Rattle.std.specs.Prelude.{◌≡◌, IfOk};
+ghost use Rattle.std.specs.Prelude.{◌≡◌, IfOk, IfSome};
 ghost use Rattle.formulas.specs.Tree.{formula_tree, joined, quantified, implies, and_also, or_else, for_all, there_is};
 ghost use Rattle.type_checker.specs.Found.{found_tree};
-ghost use Rattle.type_checker.specs.Same.{same_formula};
+ghost use Rattle.type_checker.specs.Interner.{formula_at};
 
+use crate::interner::Interner;
 use ck_base::{NoMemory, Sort};
-use formulas::{Formula, copy, same};
+use formulas::{Formula, copy};
 use std::alloc::Global;
 
-/// A formula of the proof or its context, one that a substitution or an axiom made, or a connective or
-/// quantifier that a rule put on top of found formulas.
+/// A formula that the interner holds under that number, another one of the proof or its context, one that a
+/// substitution or an axiom made, or a connective or quantifier that a rule put on top of found formulas.
 #[derive(Drop)]
 pub enum Found<'f> {
+    Interned(u32),
     Known(&'f Formula),
     Built(Formula),
     Imp(Box<Found<'f>>, Box<Found<'f>>),
@@ -22,116 +24,105 @@ pub enum Found<'f> {
     Ex(Sort, Box<Found<'f>>),
 }
 
+/// A formula of the proof: its number, where it has one.
+pub fn known<'f>(interner: &Interner<'f>, a: &'f Formula) -> Found<'f>
+    ensures { found_tree interner.now result ≡ formula_tree a.now }
+{
+    match interner.number(a) {
+        Some(number) => Found::Interned(number),
+        None => Found::Known(a),
+    }
+}
+
+/// The formula of the proof or its context that the found one is; `None` where it was made. It takes no memory.
+pub fn as_formula<'f>(interner: &Interner<'f>, a: &Found<'f>) -> Option<&'f Formula>
+    ensures { IfSome result (λ r. formula_tree r.now ≡ found_tree interner.now a.now) }
+{
+    match a {
+        Found::Interned(number) => {
+            let entry = interner.entry(*number)?;
+            Some(entry.formula)
+        }
+        Found::Known(a) => Some(a),
+        _ => None,
+    }
+}
+
 fn boxed(alloc: Global, a: Formula) -> Result<Box<Formula>, NoMemory>
     ensures { IfOk result (λ b. b.value ≡ a) }
 {
     Ok(Box::new(alloc, a)?)
 }
 
+// A copy of the formula with that number.
+#[inline(never)]
+fn copy_at(alloc: Global, interner: &Interner, number: u32) -> Result<Formula, NoMemory>
+    ensures { IfOk result (λ r. formula_tree r ≡ formula_at interner.now number) }
+{
+    match interner.entry(number) {
+        Some(entry) => copy(alloc, entry.formula),
+        None => Ok(Formula::Bottom),
+    }
+}
+
 /// The found formula as one of its own; its known parts are copied. `NoMemory` where memory was refused.
-pub fn owned(alloc: Global, a: Found) -> Result<Formula, NoMemory>
-    ensures { IfOk result (λ r. formula_tree r ≡ found_tree a.entry) }
+pub fn owned(alloc: Global, interner: &Interner, a: Found) -> Result<Formula, NoMemory>
+    ensures { IfOk result (λ r. formula_tree r ≡ found_tree interner.now a.entry) }
 {
     match a {
+        Found::Interned(number) => copy_at(alloc, interner, number),
         Found::Known(a) => copy(alloc, a),
         Found::Built(a) => Ok(a),
         Found::Imp(a, b) => {
-            let a = boxed(alloc, owned(alloc, Box::into_inner(a))?)?;
-            let b = boxed(alloc, owned(alloc, Box::into_inner(b))?)?;
+            let a = boxed(alloc, owned(alloc, interner, Box::into_inner(a))?)?;
+            let b = boxed(alloc, owned(alloc, interner, Box::into_inner(b))?)?;
             Ok(Formula::Imp(a, b))
         }
         Found::Conj(a, b) => {
-            let a = boxed(alloc, owned(alloc, Box::into_inner(a))?)?;
-            let b = boxed(alloc, owned(alloc, Box::into_inner(b))?)?;
+            let a = boxed(alloc, owned(alloc, interner, Box::into_inner(a))?)?;
+            let b = boxed(alloc, owned(alloc, interner, Box::into_inner(b))?)?;
             Ok(Formula::Conj(a, b))
         }
         Found::Disj(a, b) => {
-            let a = boxed(alloc, owned(alloc, Box::into_inner(a))?)?;
-            let b = boxed(alloc, owned(alloc, Box::into_inner(b))?)?;
+            let a = boxed(alloc, owned(alloc, interner, Box::into_inner(a))?)?;
+            let b = boxed(alloc, owned(alloc, interner, Box::into_inner(b))?)?;
             Ok(Formula::Disj(a, b))
         }
         Found::All(sort, a) => {
-            let a = boxed(alloc, owned(alloc, Box::into_inner(a))?)?;
+            let a = boxed(alloc, owned(alloc, interner, Box::into_inner(a))?)?;
             Ok(Formula::All(sort, a))
         }
         Found::Ex(sort, a) => {
-            let a = boxed(alloc, owned(alloc, Box::into_inner(a))?)?;
+            let a = boxed(alloc, owned(alloc, interner, Box::into_inner(a))?)?;
             Ok(Formula::Ex(sort, a))
         }
     }
 }
 
 /// A copy of the found formula as one of its own. `NoMemory` where memory was refused.
-pub fn copied(alloc: Global, a: &Found) -> Result<Formula, NoMemory>
-    ensures { IfOk result (λ r. formula_tree r ≡ found_tree a.now) }
+pub fn copied(alloc: Global, interner: &Interner, a: &Found) -> Result<Formula, NoMemory>
+    ensures { IfOk result (λ r. formula_tree r ≡ found_tree interner.now a.now) }
 {
     match a {
+        Found::Interned(number) => copy_at(alloc, interner, *number),
         Found::Known(a) => copy(alloc, a),
         Found::Built(a) => copy(alloc, a),
         Found::Imp(a, b) => {
-            let a = boxed(alloc, copied(alloc, a)?)?;
-            let b = boxed(alloc, copied(alloc, b)?)?;
+            let a = boxed(alloc, copied(alloc, interner, a)?)?;
+            let b = boxed(alloc, copied(alloc, interner, b)?)?;
             Ok(Formula::Imp(a, b))
         }
         Found::Conj(a, b) => {
-            let a = boxed(alloc, copied(alloc, a)?)?;
-            let b = boxed(alloc, copied(alloc, b)?)?;
+            let a = boxed(alloc, copied(alloc, interner, a)?)?;
+            let b = boxed(alloc, copied(alloc, interner, b)?)?;
             Ok(Formula::Conj(a, b))
         }
         Found::Disj(a, b) => {
-            let a = boxed(alloc, copied(alloc, a)?)?;
-            let b = boxed(alloc, copied(alloc, b)?)?;
+            let a = boxed(alloc, copied(alloc, interner, a)?)?;
+            let b = boxed(alloc, copied(alloc, interner, b)?)?;
             Ok(Formula::Disj(a, b))
         }
-        Found::All(sort, a) => Ok(Formula::All(*sort, boxed(alloc, copied(alloc, a)?)?)),
-        Found::Ex(sort, a) => Ok(Formula::Ex(*sort, boxed(alloc, copied(alloc, a)?)?)),
+        Found::All(sort, a) => Ok(Formula::All(*sort, boxed(alloc, copied(alloc, interner, a)?)?)),
+        Found::Ex(sort, a) => Ok(Formula::Ex(*sort, boxed(alloc, copied(alloc, interner, a)?)?)),
     }
-}
-
-/// The two are the same formula. It takes no memory.
-pub fn matches(a: &Formula, b: &Found) -> bool
-    ensures { result ≡ same_formula (formula_tree a.now) (found_tree b.now) }
-{
-    match (a, b) {
-        (_, Found::Known(b)) => is_same(a, b),
-        (_, Found::Built(b)) => is_same(a, b),
-        (Formula::Imp(a, b), Found::Imp(c, d)) => matches(a, c) && matches(b, d),
-        (Formula::Conj(a, b), Found::Conj(c, d)) => matches(a, c) && matches(b, d),
-        (Formula::Disj(a, b), Found::Disj(c, d)) => matches(a, c) && matches(b, d),
-        (Formula::All(r, a), Found::All(s, b)) => *r == *s && matches(a, b),
-        (Formula::Ex(r, a), Found::Ex(s, b)) => *r == *s && matches(a, b),
-        _ => false,
-    }
-}
-
-/// The two found formulas are the same. It takes no memory.
-pub fn same_found(a: &Found, b: &Found) -> bool
-    ensures { result ≡ same_formula (found_tree a.now) (found_tree b.now) }
-{
-    match (a, b) {
-        (Found::Known(a), _) => matches(a, b),
-        (Found::Built(a), _) => matches(a, b),
-        (_, Found::Known(b)) => is_found(a, b),
-        (_, Found::Built(b)) => is_found(a, b),
-        (Found::Imp(a, b), Found::Imp(c, d)) => same_found(a, c) && same_found(b, d),
-        (Found::Conj(a, b), Found::Conj(c, d)) => same_found(a, c) && same_found(b, d),
-        (Found::Disj(a, b), Found::Disj(c, d)) => same_found(a, c) && same_found(b, d),
-        (Found::All(r, a), Found::All(s, b)) => *r == *s && same_found(a, b),
-        (Found::Ex(r, a), Found::Ex(s, b)) => *r == *s && same_found(a, b),
-        _ => false,
-    }
-}
-
-// The two are the same formula.
-#[tactic(auto, using(crate::proofs::Symmetry::same_either_way))]
-fn is_found(a: &Found, b: &Formula) -> bool
-    ensures { result ≡ same_formula (found_tree a.now) (formula_tree b.now) }
-{
-    matches(b, a)
-}
-
-fn is_same(a: &Formula, b: &Formula) -> bool
-    ensures { result ≡ same_formula (formula_tree a.now) (formula_tree b.now) }
-{
-    same(a, b)
 }

@@ -7,6 +7,7 @@ ghost use Rattle.proof_terms.specs.Tree.{proof_tree};
 ghost use Rattle.type_checker.specs.Place.{proof_nodes, AreAssumable, IsFirstUntyped, IfAt};
 ghost use Rattle.type_checker.specs.Typing.{Has};
 
+use crate::gather::gathered;
 use crate::scope::Scope;
 use crate::typed::owned;
 use crate::untyped::Untyped;
@@ -40,7 +41,8 @@ pub fn type_of<'f>(
     ensures place { IfErr result (λ e. IfAt e (IsFirstUntyped decls.now (variables_of context.now) (hypotheses_of context.now) (proof_tree p.now))) }
 {
     let variables = Variables::Outer(&context.sorts);
+    let interner = gathered(alloc, p)?;
     let scope = Scope::Outer(&*context);
-    let (found, _) = walk(alloc, decls, &variables, &scope, p, 0)?;
-    Ok(owned(alloc, found)?)
+    let (found, _) = walk(alloc, &interner, decls, &variables, &scope, p, 0)?;
+    Ok(owned(alloc, &interner, found)?)
 }

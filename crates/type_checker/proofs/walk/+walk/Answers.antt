@@ -41,7 +41,7 @@ walk-requires-in-Gen t c =
     let part : nodes c.deref-in-Gen.result.now ≡ nodes c.in-Gen.part.value = ap nodes c.deref-in-Gen.ensures in (
       omega (arith, c.decreases, whole, part),
       (
-        raised_assumable c.args.decls.now c.in-Gen.sort (sorts_in c.args.variables.now) (hypotheses_under c.args.scope.now) c.requires.assumed,
+        raised_assumable c.args.decls.now c.in-Gen.sort (sorts_in c.args.variables.now) (hypotheses_under c.args.interner.now c.args.scope.now) c.requires.assumed,
         (
           omega (arith, c.requires.over),
           (
@@ -60,8 +60,8 @@ walk-requires-in-Cases-2 t c =
       omega (arith, c.decreases, whole, next),
       (
         (
-          left c.args.decls.now (sorts_in c.args.variables.now) (hypotheses_under c.args.scope.now) (proof_tree c.deref-in-Cases.result.now) c.args.n (found_tree c.in_ok-f-in-Cases.f) c.in_ok-f-in-Cases.n c.requires.assumed c.in_ok-f-in-Cases.ensures.gives
-              (found_tree c.in-Some.a) (found_tree c.in-Some.b) c.in-Some.ensures.some,
+          left c.args.decls.now (sorts_in c.args.variables.now) (hypotheses_under c.args.interner.now c.args.scope.now) (proof_tree c.deref-in-Cases.result.now) c.args.n (found_tree c.args.interner.now c.in_ok-f-in-Cases.f) c.in_ok-f-in-Cases.n c.requires.assumed c.in_ok-f-in-Cases.ensures.gives
+              (found_tree c.args.interner.now c.in-Some.a) (found_tree c.args.interner.now c.in-Some.b) c.in-Some.ensures.some,
           c.requires.assumed,
         ),
         (
@@ -83,8 +83,8 @@ walk-requires-in-Cases-3 t c =
       omega (arith, c.decreases, whole, last),
       (
         (
-          right c.args.decls.now (sorts_in c.args.variables.now) (hypotheses_under c.args.scope.now) (proof_tree c.deref-in-Cases.result.now) c.args.n (found_tree c.in_ok-f-in-Cases.f) c.in_ok-f-in-Cases.n c.requires.assumed c.in_ok-f-in-Cases.ensures.gives
-              (found_tree c.in-Some.a) (found_tree c.in-Some.b) c.in-Some.ensures.some,
+          right c.args.decls.now (sorts_in c.args.variables.now) (hypotheses_under c.args.interner.now c.args.scope.now) (proof_tree c.deref-in-Cases.result.now) c.args.n (found_tree c.args.interner.now c.in_ok-f-in-Cases.f) c.in_ok-f-in-Cases.n c.requires.assumed c.in_ok-f-in-Cases.ensures.gives
+              (found_tree c.args.interner.now c.in-Some.a) (found_tree c.args.interner.now c.in-Some.b) c.in-Some.ensures.some,
           c.requires.assumed,
         ),
         (
@@ -100,9 +100,9 @@ walk-requires-in-Cases-3 t c =
 pub cases-requires-clause-fitting : goal.cases-requires-clause-fitting
 cases-requires-clause-fitting t c =
     let assumed =
-    left c.args.decls.now (sorts_in c.args.variables.now) (hypotheses_under c.args.scope.now) (proof_tree c.deref-in-Cases.result.now) c.args.n (found_tree c.in_ok-f-in-Cases.f) c.in_ok-f-in-Cases.n c.requires.assumed c.in_ok-f-in-Cases.ensures.gives
-    (found_tree c.in-Some.a) (found_tree c.in-Some.b) c.in-Some.ensures.some in
-    fitting c.args.decls.now (sorts_in c.args.variables.now) (found_tree c.in-Some.a ∷ hypotheses_under c.args.scope.now) (proof_tree c.deref-in-Cases-2.result.now) c.in_ok-f-in-Cases.n (found_tree c.in_ok-c-in-Cases.c) c.in_ok-c-in-Cases.n (assumed, c.requires.assumed)
+    left c.args.decls.now (sorts_in c.args.variables.now) (hypotheses_under c.args.interner.now c.args.scope.now) (proof_tree c.deref-in-Cases.result.now) c.args.n (found_tree c.args.interner.now c.in_ok-f-in-Cases.f) c.in_ok-f-in-Cases.n c.requires.assumed c.in_ok-f-in-Cases.ensures.gives
+    (found_tree c.args.interner.now c.in-Some.a) (found_tree c.args.interner.now c.in-Some.b) c.in-Some.ensures.some in
+    fitting c.args.decls.now (sorts_in c.args.variables.now) (found_tree c.args.interner.now c.in-Some.a ∷ hypotheses_under c.args.interner.now c.args.scope.now) (proof_tree c.deref-in-Cases-2.result.now) c.in_ok-f-in-Cases.n (found_tree c.args.interner.now c.in_ok-c-in-Cases.c) c.in_ok-c-in-Cases.n (assumed, c.requires.assumed)
     c.in_ok-c-in-Cases.ensures.gives
 
 pub walk-requires-in-Unpack-2 : goal.walk-requires-in-Unpack-2
@@ -112,8 +112,8 @@ walk-requires-in-Unpack-2 t c =
     let next : nodes c.deref-in-Unpack-2.result.now ≡ nodes c.in-Unpack.rest.value = ap nodes c.deref-in-Unpack-2.ensures in (
       omega (arith, c.decreases, whole, next),
       (
-        under c.args.decls.now (sorts_in c.args.variables.now) (hypotheses_under c.args.scope.now) (proof_tree c.deref-in-Unpack.result.now) c.args.n (found_tree c.in_ok-f-in-Unpack.f) c.in_ok-f-in-Unpack.n c.requires.assumed c.in_ok-f-in-Unpack.ensures.gives
-            c.in-Some-body.sort (found_tree c.in-Some-body.a) c.in-Some-body.ensures.some,
+        under c.args.decls.now (sorts_in c.args.variables.now) (hypotheses_under c.args.interner.now c.args.scope.now) (proof_tree c.deref-in-Unpack.result.now) c.args.n (found_tree c.args.interner.now c.in_ok-f-in-Unpack.f) c.in_ok-f-in-Unpack.n c.requires.assumed c.in_ok-f-in-Unpack.ensures.gives
+            c.in-Some-body.sort (found_tree c.args.interner.now c.in-Some-body.a) c.in-Some-body.ensures.some,
         (
           omega (arith, c.requires.over),
           (
@@ -127,7 +127,7 @@ walk-requires-in-Unpack-2 t c =
 pub unpacked-requires-clause-fitting : goal.unpacked-requires-clause-fitting
 unpacked-requires-clause-fitting t c =
     let assumed =
-    under c.args.decls.now (sorts_in c.args.variables.now) (hypotheses_under c.args.scope.now) (proof_tree c.deref-in-Unpack.result.now) c.args.n (found_tree c.in_ok-f-in-Unpack.f) c.in_ok-f-in-Unpack.n c.requires.assumed c.in_ok-f-in-Unpack.ensures.gives
-    c.in-Some-body.sort (found_tree c.in-Some-body.a) c.in-Some-body.ensures.some in
-    fitting c.args.decls.now (c.in-Some-body.sort ∷ sorts_in c.args.variables.now) (found_tree c.in-Some-body.a ∷ raised (hypotheses_under c.args.scope.now)) (proof_tree c.deref-in-Unpack-2.result.now) c.in_ok-f-in-Unpack.n (found_tree c.in_ok-c-in-Unpack.c) c.in_ok-c-in-Unpack.n assumed
+    under c.args.decls.now (sorts_in c.args.variables.now) (hypotheses_under c.args.interner.now c.args.scope.now) (proof_tree c.deref-in-Unpack.result.now) c.args.n (found_tree c.args.interner.now c.in_ok-f-in-Unpack.f) c.in_ok-f-in-Unpack.n c.requires.assumed c.in_ok-f-in-Unpack.ensures.gives
+    c.in-Some-body.sort (found_tree c.args.interner.now c.in-Some-body.a) c.in-Some-body.ensures.some in
+    fitting c.args.decls.now (c.in-Some-body.sort ∷ sorts_in c.args.variables.now) (found_tree c.args.interner.now c.in-Some-body.a ∷ raised (hypotheses_under c.args.interner.now c.args.scope.now)) (proof_tree c.deref-in-Unpack-2.result.now) c.in_ok-f-in-Unpack.n (found_tree c.args.interner.now c.in_ok-c-in-Unpack.c) c.in_ok-c-in-Unpack.n assumed
     c.in_ok-c-in-Unpack.ensures.gives
