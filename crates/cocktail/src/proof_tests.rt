@@ -514,13 +514,13 @@ fn deep_formulas(rt: HostRuntime) -> Result<(), Fail> {
     Ok(())
 }
 
-/// Over a hypothesis of 255 levels the rule has a formula, and so the fault is at what stands around it; over one
-/// of 256 levels the rule has none.
-fn adds_a_level(alloc: Global, rule: &[u8], place: u32) -> Result<bool, DeclFault> {
+/// Over a hypothesis of 255 levels the rule, whose number is `place`, has a formula, and so the fault is at what
+/// stands around it; over one of 256 levels the rule has none.
+fn adds_a_level(alloc: Global, rule: &[u8], place: u32, around: u32) -> Result<bool, DeclFault> {
     let low = nested(alloc, 253, b"~", b"true", b"")?;
     let high = nested(alloc, 254, b"~", b"true", b"")?;
     Ok(
-        faulty_over(alloc, low.as_bytes(), rule, place + 1)?
+        faulty_over(alloc, low.as_bytes(), rule, around)?
             && faulty_over(alloc, high.as_bytes(), rule, place)?,
     )
 }
@@ -534,10 +534,10 @@ fn faulty_over(alloc: Global, a: &[u8], rule: &[u8], place: u32) -> Result<bool,
 #[test]
 fn formulas_that_do_not_fit(rt: HostRuntime) -> Result<(), Fail> {
     let alloc = rt.alloc();
-    assert!(rt; adds_a_level(alloc, b"first(gen(int, #0))", 1)?);
-    assert!(rt; adds_a_level(alloc, b"stable(pair(#0, #0))", 2)?);
-    assert!(rt; adds_a_level(alloc, b"first(left(a, #0))", 1)?);
-    assert!(rt; adds_a_level(alloc, b"first(right(a, #0))", 1)?);
+    assert!(rt; adds_a_level(alloc, b"first(gen(int, #0))", 1, 2)?);
+    assert!(rt; adds_a_level(alloc, b"stable(pair(#0, #0))", 2, 3)?);
+    assert!(rt; adds_a_level(alloc, b"first(left(a, #0))", 1, 2)?);
+    assert!(rt; adds_a_level(alloc, b"first(right(a, #0))", 1, 2)?);
     Ok(())
 }
 
