@@ -1,6 +1,6 @@
 //! Whether two terms are the same polynomial.
 
-ghost use Rattle.std.specs.Prelude.{◌≡◌, ◌≢◌, ◌↔◌, ◌++◌, ◌+◌, ◌^◌, ◌<◌, ◌≤◌, ℕ, ℤ, ◌+ℤ◌, unsigned_abs, map, length, Ok, Err, IsOk, IfOk, OnOk, IfErr, MatchOption};
+ghost use Rattle.std.specs.Prelude.{◌≡◌, ◌≢◌, ◌↔◌, ◌++◌, ◌+◌, ◌^◌, ◌<◌, ℕ, ℤ, map, Ok, Err, IsOk, IfOk, OnOk, IfErr, MatchOption};
 ghost use Rattle.sorted_terms.specs.Tree.{term_tree};
 ghost use Rattle.arith_axioms.specs.declared.no_ring.NoRing.TheVariants as no_ring;
 ghost use Rattle.arith_axioms.specs.Polynomials.{Product, IsSamePolynomial, total_in, absolute_sum};

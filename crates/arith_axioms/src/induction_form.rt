@@ -1,6 +1,6 @@
 //! The induction form.
 
-ghost use Rattle.std.specs.Prelude.{◌≡◌, IfOk, suc};
+ghost use Rattle.std.specs.Prelude.{◌≡◌, IfOk};
 ghost use Rattle.sorted_terms.specs.Tree.{term_tree, index};
 ghost use Rattle.formulas.specs.Tree.{formula_tree};
 ghost use Rattle.arith_axioms.specs.Axioms.{◌<='◌, 0', induction as induction_form, next_at, next_term};

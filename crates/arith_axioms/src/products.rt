@@ -1,6 +1,6 @@
 //! Products of factors: their order, and two of them joined to one.
 
-ghost use Rattle.std.specs.Prelude.{◌≡◌, ◌++◌, length, IfOk, OnOk};
+ghost use Rattle.std.specs.Prelude.{◌≡◌, ◌++◌, IfOk, OnOk};
 ghost use Rattle.arith_axioms.specs.Polynomials.{lower_factor, same_product, joined_products};
 ghost use Rattle.arith_axioms.specs.Gathering.{IsInOrder, factors_order, product_order};
 

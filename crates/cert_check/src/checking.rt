@@ -1,6 +1,6 @@
 //! Whether bytes are a valid certificate.
 
-ghost use Rattle.std.specs.Prelude.{◌≡◌, ◌+◌, ◌^◌, ◌<◌, ◌≤◌, ◌↔◌, [], length, IfOk, IsTrue, IsErrOf};
+ghost use Rattle.std.specs.Prelude.{◌≡◌, ◌+◌, ◌^◌, ◌<◌, ◌↔◌, [], length, IfOk, IsTrue, IsErrOf};
 ghost use Rattle.std.specs.Bool.{MatchBool};
 ghost use Rattle.formulas.specs.Tree.{formula_tree, joined, implies};
 ghost use Rattle.proof_terms.specs.Tree.{proof_tree};

@@ -1,6 +1,6 @@
 //! The parts of certificates, each with the bytes after it.
 
-ghost use Rattle.std.specs.Prelude.{◌≡◌, ◌<◌, ◌≤◌, ◌*◌, ◌^◌, ◌==◌, length, IfOk, IfErr};
+ghost use Rattle.std.specs.Prelude.{◌≡◌, ◌<◌, ◌≤◌, ◌*◌, ◌^◌, ◌==◌, IfOk, IfErr};
 ghost use Rattle.sorted_terms.specs.Tree.{term_tree};
 ghost use Rattle.formulas.specs.Tree.{formula_tree};
 ghost use Rattle.proof_terms.specs.Tree.{lambda, application, proof_tree};

@@ -1,6 +1,6 @@
 //! Bytes as certificates.
 
-ghost use Rattle.std.specs.Prelude.{◌≡◌, ◌<◌, ◌^◌, length, IfOk};
+ghost use Rattle.std.specs.Prelude.{◌<◌, ◌^◌, length, IfOk};
 ghost use Rattle.cert_codec.specs.Tree.{CertificateTree, certificate_tree};
 ghost use Rattle.cert_codec.specs.Spelling.{Spells};
 ghost use Rattle.cert_codec.specs.Front.{IfMalformed, IsMalformedAt};

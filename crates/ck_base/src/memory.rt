@@ -2,12 +2,12 @@
 //!
 //! The calls of a device are numbered from 0. A count of calls, as one of faults, stops at its last value.
 
-ghost use Rattle.std.specs.Prelude.{◌≡◌, ◌≢◌, ◌+◌, ◌<◌, ◌≤◌, ◌⊎◌, ◌↔◌, ◌++◌, min, true, false, [], length, take, drop, slice_get, position, Some, IsTrue, IsErr, IfOk, OnOk, OnErr};
+ghost use Rattle.std.specs.Prelude.{◌≡◌, ◌≢◌, ◌+◌, ◌<◌, ◌≤◌, ◌⊎◌, ◌↔◌, ◌++◌, min, true, false, [], length, take, drop, position, Some, IsTrue, IsErr, IfOk, OnOk, OnErr};
 ghost use Rattle.std.specs.Str.{bytes_eq};
 ghost use Rattle.std.specs.Io.{ReadsAtMost};
 ghost use Rattle.std.specs.Io.KnownBytes.{ReadConsumes, WriteAppends};
 ghost use Rattle.ck_base.specs.Outside.{Rose, HasCause, PutExtends, fresh, begun, spent, nothing, file, content};
-ghost use Rattle.ck_base.specs.Memory.{Calls, next, next_fails, passed, failed, counted, bytes_of, left_from, written_of};
+ghost use Rattle.ck_base.specs.Memory.{Calls, next, next_fails, passed, failed, counted, left_from, written_of};
 
 use crate::list::List;
 use crate::outside::{Failed, NamedBytes, Origin, Sink, Target};

@@ -1,10 +1,8 @@
 //! What the reader keeps of each text, and the frames that take it as an operand.
 
-ghost use Rattle.std.specs.Prelude.{◌≡◌, true, false, ◌<◌, ◌^◌, ◌+◌, ◌≤◌, length, max, List, ℕ, IfOk, OnOk};
+ghost use Rattle.std.specs.Prelude.{◌≡◌, true, false, ◌<◌, ◌^◌, ◌+◌, ◌≤◌, length, max, List, IfOk, OnOk};
 ghost use Rattle.sorted_terms.specs.Tree.{term_tree};
-ghost use Rattle.sorted_terms.specs.Tree as term_spec;
 ghost use Rattle.formulas.specs.Tree.{formula_tree};
-ghost use Rattle.formulas.specs.Tree as formula_spec;
 ghost use Rattle.ck_base.specs.declared.limits.TheConstants.{FORMULA_DEPTH};
 ghost use Rattle.ck_text.specs.Items as spec;
 ghost use Rattle.ck_text.specs.Texts as grammar;

@@ -1,8 +1,7 @@
 //! The rules of a proof with an argument that is being read, and what is wanted next.
 
-ghost use Rattle.std.specs.Prelude.{◌≡◌, ◌+◌, ◌<◌, ◌≤◌, ◌^◌, length, IfOk, OnOk, IfSome};
+ghost use Rattle.std.specs.Prelude.{◌≡◌, ◌+◌, ◌<◌, ◌≤◌, ◌^◌, length, OnOk};
 ghost use Rattle.std.specs.Option.{option_map};
-ghost use Rattle.proof_terms.specs.Tree.{proof_tree};
 ghost use Rattle.ck_text.specs.Texts.{whole_scope};
 ghost use Rattle.ck_text.specs.ProofTexts as grammar;
 ghost use Rattle.ck_text.specs.ProofItems as spec;
@@ -11,7 +10,6 @@ ghost use Rattle.ck_text.specs.ProofViews as views;
 use crate::head::Head;
 use crate::proof_parts::{Kind, Parts, count, kind_at};
 use ck_base::{Decls, List, NoMemory};
-use std::alloc::Global;
 
 /// What names and `#k` stand for: the declared names, and how many variables and hypotheses are in scope.
 #[derive(Clone, Copy)]

@@ -1,10 +1,9 @@
 //! The rules of written proofs: their names, the kinds of their arguments, and the proofs that they make.
 
-ghost use Rattle.std.specs.Prelude.{◌≡◌, ◌+◌, ◌∷◌, ◌++◌, [], Some, None, length, map, slice_get, IfOk, MatchOption};
+ghost use Rattle.std.specs.Prelude.{◌≡◌, ◌+◌, ◌∷◌, ◌++◌, [], Some, None, length, map, slice_get, MatchOption};
 ghost use Rattle.std.specs.Option.{option_map};
 ghost use Rattle.proof_terms.specs.Tree.{proof_tree};
 ghost use Rattle.sorted_terms.specs.Tree.{term_tree};
-ghost use Rattle.formulas.specs.Tree.{formula_tree};
 ghost use Rattle.ck_text.specs.declared.head.Head.TheVariants as heads;
 ghost use Rattle.ck_text.specs.ProofTexts as grammar;
 ghost use Rattle.ck_text.specs.ProofMachine as machine;

@@ -1,6 +1,6 @@
 //! The printed bytes of proofs.
 
-ghost use Rattle.std.specs.Prelude.{◌≡◌, suc, ◌++◌, OnOk, OnErr, codes};
+ghost use Rattle.std.specs.Prelude.{◌≡◌, ◌++◌, OnOk, OnErr, codes};
 ghost use Rattle.formulas.specs.Tree.{formula_tree};
 ghost use Rattle.proof_terms.specs.Tree.{proof_tree};
 ghost use Rattle.sorted_terms.specs.Tree.{term_tree};

@@ -1,7 +1,7 @@
 //! The reader of proofs over tokens. It keeps the rules with an argument that is being read on a stack, so
 //! nothing in it calls itself as deep as a proof nests.
 
-ghost use Rattle.std.specs.Prelude.{◌≡◌, ℕ, ◌+◌, ◌<◌, ◌≤◌, ◌^◌, true, List, [], Some, None, length, map, IfOk, OnOk, IfSome};
+ghost use Rattle.std.specs.Prelude.{◌≡◌, ◌+◌, ◌<◌, ◌≤◌, ◌^◌, true, List, [], Some, None, length, map, IfOk, IfSome};
 ghost use Rattle.std.specs.Option.{option_map};
 ghost use Rattle.proof_terms.specs.Tree.{proof_tree};
 ghost use Rattle.ck_base.specs.declared.limits.TheConstants.{FORMULA_DEPTH, NESTING, PROOF_DEPTH};
@@ -10,12 +10,11 @@ ghost use Rattle.ck_text.specs.declared.proof_calls.Call as code_call;
 ghost use Rattle.ck_text.specs.Tokens as token;
 ghost use Rattle.ck_text.specs.Texts.{first_of};
 ghost use Rattle.ck_text.specs.Views as expression_views;
-ghost use Rattle.ck_text.specs.ProofTexts as grammar;
 ghost use Rattle.ck_text.specs.ProofItems as spec;
 ghost use Rattle.ck_text.specs.ProofViews as views;
 
 use crate::head::Head;
-use crate::items::{Frame, Item, as_formula, as_term, height};
+use crate::items::{Frame, Item, as_formula, as_term};
 use crate::proof_calls::{
     Call, ProofScope, asked, enter, expression_scope, proof_scope, wants_term,
 };

@@ -1,6 +1,6 @@
 //! Proofs out of their texts.
 
-ghost use Rattle.std.specs.Prelude.{◌≡◌, ◌<◌, ◌≤◌, ◌*◌, ◌^◌, ℕ, true, length, map, IfOk, IsErrOf};
+ghost use Rattle.std.specs.Prelude.{◌<◌, ◌≤◌, ◌*◌, ◌^◌, ℕ, true, length, IfOk, IsErrOf};
 ghost use Rattle.proof_terms.specs.Tree.{proof_tree};
 ghost use Rattle.proof_terms.specs.Size.{proof_depth, proof_size};
 ghost use Rattle.ck_base.specs.declared.limits.TheConstants.{FORMULA_DEPTH, NESTING, PROOF_DEPTH};

@@ -1,10 +1,9 @@
 //! The reader of texts over tokens.
 
-ghost use Rattle.std.specs.Prelude.{◌≡◌, suc, true, false, ◌+◌, ◌≤◌, ◌<◌, ◌^◌, ◌&&◌, nat_le, nat_lt, length, map, List, [], ◌∷◌, Some, None, IfOk, OnOk, IfErr};
+ghost use Rattle.std.specs.Prelude.{◌≡◌, suc, true, false, ◌+◌, ◌≤◌, ◌<◌, ◌^◌, ◌&&◌, length, map, List, [], Some, None, IfOk, OnOk};
 ghost use Rattle.std.specs.Option.{option_map};
 ghost use Rattle.sorted_terms.specs.Tree.{term_tree};
 ghost use Rattle.ck_base.specs.declared.limits.TheConstants.{FORMULA_DEPTH, NESTING};
-ghost use Rattle.ck_text.specs.declared.token.Prefix.TheVariants as prefixes;
 ghost use Rattle.ck_text.specs.Items as spec;
 ghost use Rattle.ck_text.specs.Texts as grammar;
 ghost use Rattle.ck_text.specs.Views as views;

@@ -3,7 +3,7 @@
 ghost use Rattle.std.specs.Prelude.{◌≡◌, ◌<◌, ◌≤◌, suc, true, ◌∷◌, length, map, take, drop, IfOk};
 ghost use Rattle.std.specs.List.{list_all};
 ghost use Rattle.std.specs.Option.{option_map};
-ghost use Rattle.ck_base.specs.Names.{is_letter, is_digit, is_name_byte};
+ghost use Rattle.ck_base.specs.Names.{is_digit, is_name_byte};
 ghost use Rattle.ck_text.specs.Tokens as grammar;
 ghost use Rattle.ck_text.specs.Views as views;
 

@@ -1,11 +1,11 @@
 //! `derive SCRIPT CERTIFICATE`: plays a script, and writes the certificate of its accepted `export`.
 
-ghost use Rattle.std.specs.Prelude.{◌≡◌, ◌≢◌, ◌⊎◌, ◌++◌, Some, None, length, codes, decimal, IfOk, List, ℕ};
+ghost use Rattle.std.specs.Prelude.{◌≡◌, ◌≢◌, ◌⊎◌, ◌++◌, Some, None, codes, decimal, IfOk};
 ghost use Rattle.std.specs.Io.KnownBytes.{Appends};
 ghost use Rattle.ck_base.specs.Outside.{Rose, IsOther, fresh, file, Becomes};
 ghost use Rattle.cert_codec.specs.Tree.{checked_tree};
 ghost use Rattle.cert_codec.specs.Spelling.{spell, IsBuilt};
-ghost use Rattle.cocktail.specs.Commands.{deriving_to, Prints, HoldsFront, exported_line, last_line};
+ghost use Rattle.cocktail.specs.Commands.{deriving_to, Prints, HoldsFront, exported_line};
 ghost use Rattle.cocktail.specs.Ends.{HasDerived, HasNotExported, CannotReply, CannotWrite, IsForeign, IsWhole, FindsNone, IsTooLong};
 
 use crate::printing::{print, reported};

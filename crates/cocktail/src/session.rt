@@ -1,20 +1,15 @@
 //! The session: a script is played line by line.
 
-ghost use Rattle.std.specs.Prelude.{◌≡◌, ◌≢◌, ◌<◌, ◌^◌, ◌++◌, None, IfOk, IfSome, OnOk, IsErrOf, codes, decimal, Some, true};
-ghost use Rattle.formulas.specs.Tree.{formula_tree};
-ghost use Rattle.formulas.specs.Sorts.{fits as fits_tree};
-ghost use Rattle.proof_terms.specs.Tree.{proof_tree};
-ghost use Rattle.proof_terms.specs.Size.{proof_size};
+ghost use Rattle.std.specs.Prelude.{◌≡◌, ◌≢◌, ◌<◌, ◌^◌, ◌++◌, None, IfOk, IfSome, OnOk, IsErrOf, codes, Some};
 ghost use Rattle.cert_codec.specs.Tree.{checked_tree};
-ghost use Rattle.cert_codec.specs.Spelling.{spell, is_built_formula, IsBuiltProof};
+ghost use Rattle.cert_codec.specs.Spelling.{spell};
 ghost use Rattle.cert_check.specs.Valid.{IsFileOf};
-ghost use Rattle.script_reader.specs.Lines.{lines_of, line_tree, spec, skip, intro, exact, export};
+ghost use Rattle.script_reader.specs.Lines.{lines_of, line_tree, skip, intro, exact, export};
 ghost use Rattle.derivation.specs.declared.derivation.StepFault.TheVariants as faults;
-ghost use Rattle.derivation.specs.Derivation.{DerivationTree, derivation_tree, open_hole};
+ghost use Rattle.derivation.specs.Derivation.{DerivationTree, derivation_tree};
 ghost use Rattle.derivation.specs.Derived.{IsKept};
 ghost use Rattle.derivation.specs.Printing.{open_text};
 ghost use Rattle.cocktail.specs.Session.{Plays, unfinished_line, open_of, state_of, certificate_tree_of};
-ghost use Rattle.cocktail.specs.declared.session.Answer.TheVariants as answers;
 ghost use Rattle.cocktail.specs.Session.{Accepts};
 ghost use Rattle.cocktail.specs.Answers.{IsKeptSession, MayBe, AnswersTo, Answers};
 

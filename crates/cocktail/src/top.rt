@@ -1,6 +1,6 @@
 //! The top call: the words of the command line are read, and the command is run on the outside.
 
-ghost use Rattle.std.specs.Prelude.{◌≡◌, ◌≢◌, ◌⊎◌, ◌↔◌, Some, None, map, codes};
+ghost use Rattle.std.specs.Prelude.{◌≡◌, ◌⊎◌, ◌↔◌, Some, None, map, codes};
 ghost use Rattle.std.specs.String.{string_bytes};
 ghost use Rattle.ck_base.specs.Outside.{Rose, fresh};
 ghost use Rattle.cocktail.specs.Commands.{command_of, line, Prints};

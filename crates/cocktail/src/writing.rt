@@ -1,6 +1,6 @@
 //! Writing a file whole.
 
-ghost use Rattle.std.specs.Prelude.{◌≡◌, ◌≤◌, ◌⊎◌, length, drop, OnOk, OnErr};
+ghost use Rattle.std.specs.Prelude.{◌≡◌, ◌⊎◌, OnOk, OnErr};
 ghost use Rattle.ck_base.specs.Outside.{Rose, IsOther, fresh, file, Becomes};
 ghost use Rattle.cocktail.specs.Commands.{HoldsFront};
 

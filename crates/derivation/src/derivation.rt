@@ -2,8 +2,8 @@
 
 ghost use Rattle.std.specs.Prelude.{◌≡◌, ◌+◌, ◌<◌, ◌≤◌, ◌^◌, [], ◌∷◌, true, length, reverse, map, ◌≢◌, None, IfOk, OnOk, IfErr, IsErrOf, IsTrue, ◌↔◌, Some};
 ghost use Rattle.std.specs.Bool.{MatchBool};
-ghost use Rattle.formulas.specs.Tree.{FormulaTree, formula_tree, joined, implies};
-ghost use Rattle.formulas.specs.Sorts.{fits as fits_tree, size as size_of};
+ghost use Rattle.formulas.specs.Tree.{formula_tree, joined, implies};
+ghost use Rattle.formulas.specs.Sorts.{fits as fits_tree};
 ghost use Rattle.formulas.specs.Context.{hypotheses_of};
 ghost use Rattle.proof_terms.specs.Tree.{proof_tree};
 ghost use Rattle.proof_terms.specs.Size.{proof_size};

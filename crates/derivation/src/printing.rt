@@ -1,6 +1,6 @@
 //! The printed line of the open hole.
 
-ghost use Rattle.std.specs.Prelude.{◌≡◌, ◌+◌, ◌<◌, ◌^◌, ◌++◌, length, map, reverse, decimal, codes, [], OnOk};
+ghost use Rattle.std.specs.Prelude.{◌≡◌, ◌+◌, ◌<◌, ◌^◌, ◌++◌, length, map, reverse, decimal, [], OnOk};
 ghost use Rattle.formulas.specs.Tree.{formula_tree};
 ghost use Rattle.formulas.specs.Context.{hypotheses_of};
 ghost use Rattle.ck_text.specs.Printing.{formula_bytes};

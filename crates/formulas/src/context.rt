@@ -1,8 +1,7 @@
 //! The context of a place in a proof.
 
-ghost use Rattle.std.specs.Prelude.{◌≡◌, ◌∷◌, ◌++◌, ◌^◌, [], map, IfOk};
+ghost use Rattle.std.specs.Prelude.{◌≡◌, ◌∷◌, ◌^◌, map, IfOk};
 ghost use Rattle.formulas.specs.Tree.{formula_tree};
-ghost use Rattle.formulas.specs.Substitution.{HasIndicesBelow, shift as shifted};
 ghost use Rattle.formulas.specs.Context.{variables_of, hypotheses_of, raised, AllIndicesBelow};
 
 use crate::copying::copy;

@@ -1,6 +1,6 @@
 //! Filling a hole of a proof, and taking a part out again.
 
-ghost use Rattle.std.specs.Prelude.{◌≡◌, ◌≤◌, ◌∷◌, Some, None, OnOk, IfErr, IsSome, IsTrue, IsFalse};
+ghost use Rattle.std.specs.Prelude.{◌≡◌, ◌≤◌, Some, None, OnOk, IfErr, IsSome, IsTrue, IsFalse};
 ghost use Rattle.proof_terms.specs.Tree.{proof_tree};
 ghost use Rattle.proof_terms.specs.Holes.{filled, hole_count};
 ghost use Rattle.proof_terms.specs.Paths.{at_path, put_at, holed};

@@ -2,11 +2,9 @@
 
 ghost use Rattle.std.specs.Prelude.{◌≡◌, ◌<◌, ◌≤◌, ◌^◌, ◌==◌, [], ◌∷◌, length, take, drop, true, IfOk, IfSome, IsErrOf, MatchOption};
 ghost use Rattle.std.specs.List.{list_all};
-ghost use Rattle.formulas.specs.Tree.{formula_tree};
 ghost use Rattle.script_reader.specs.Lines.{Means, LineTree, line_tree, lines_of, is_inside, without_return, is_plain, is_comment, is_blank_line as is_blank_line_of, is_text_byte, hypotheses_at};
 ghost use Rattle.script_reader.specs.Tokens.{count_while, scan};
 ghost use Rattle.script_reader.specs.Reading.{Gives, spec_at, step_at, line_at, after_all};
-ghost use Rattle.std.specs.Option.{option_copied};
 
 use crate::reading::{close_brace, colon, fitting, open_brace, proof};
 use crate::stop::Stop;

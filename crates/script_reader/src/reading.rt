@@ -1,7 +1,7 @@
 //! Formulas and proofs out of tokens, each with the tokens after it.
 
 ghost use Rattle.std.specs.Prelude.{◌≡◌, ◌<◌, ◌^◌, ◌+◌, IfOk, IfErr};
-ghost use Rattle.formulas.specs.Tree.{FormulaTree, formula_tree, joined, implies, not_so};
+ghost use Rattle.formulas.specs.Tree.{formula_tree, joined, implies};
 ghost use Rattle.proof_terms.specs.Tree.{proof_tree, lambda, application};
 ghost use Rattle.script_reader.specs.declared.stop.Stop.TheVariants as stops;
 ghost use Rattle.std.specs.Option.{option_copied};

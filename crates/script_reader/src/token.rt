@@ -2,7 +2,7 @@
 
 ghost use Rattle.std.specs.Prelude.{◌≡◌, ◌<◌, ◌≤◌, ◌^◌, suc, true, nat_lt, if◌then◌else◌, Some, None, ◌∷◌, length, take, drop, IfOk};
 ghost use Rattle.std.specs.List.{list_all};
-ghost use Rattle.ck_base.specs.Names.{is_letter, is_digit, is_name_byte};
+ghost use Rattle.ck_base.specs.Names.{is_digit, is_name_byte};
 ghost use Rattle.script_reader.specs.Tokens.{is_blank, begins_word, count_while, value_from, word_token, number_token, sign_token, first_token as first_token_of, scan};
 
 use ck_base::{List, NoMemory};

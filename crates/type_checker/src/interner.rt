@@ -1,7 +1,7 @@
 //! The formulas that a proof names, each kept once under a number, so that equal ones are told by their
 //! numbers alone (hash-consing, Ershov 1958).
 
-ghost use Rattle.std.specs.Prelude.{◌≡◌, ◌<◌, ◌^◌, ℕ, [], slice_get, Some, None, true, IfOk, IfSome, MatchOption};
+ghost use Rattle.std.specs.Prelude.{◌≡◌, ◌<◌, ◌^◌, ℕ, [], slice_get, Some, None, true, IfOk, IfSome};
 ghost use Rattle.std.specs.Option.{option_map};
 ghost use Rattle.formulas.specs.Tree.{FormulaTree, formula_tree};
 ghost use Rattle.formulas.specs.Sorts.{size as nodes_of, depth as levels_of};
@@ -43,7 +43,7 @@ pub struct Interner<'f> {
 }
 
 impl<'f> Model for Interner<'f> {
-    ghost use Rattle.std.specs.Prelude.{List, map};
+    ghost use Rattle.std.specs.Prelude.{List};
     ghost use Rattle.formulas.specs.declared.formula.Formula.{Formula};
     ghost use Rattle.formulas.specs.contracts.formula.Formula as contracts;
     ghost use Rattle.std.specs.Coded.{codes};

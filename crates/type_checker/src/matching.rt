@@ -4,7 +4,7 @@
 ghost use Rattle.std.specs.Prelude.{◌≡◌};
 ghost use Rattle.formulas.specs.Tree.{formula_tree, bottom};
 ghost use Rattle.type_checker.specs.Found.{found_tree};
-ghost use Rattle.type_checker.specs.Interner.{formula_at, HasParts};
+ghost use Rattle.type_checker.specs.Interner.{formula_at};
 ghost use Rattle.type_checker.specs.Same.{same_formula};
 
 use crate::interner::Interner;

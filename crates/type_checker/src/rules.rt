@@ -8,7 +8,7 @@ ghost use Rattle.sorted_terms.specs.Variables.{sorts_in};
 ghost use Rattle.sorted_terms.specs.Sorts.{sort_of, has_sort};
 ghost use Rattle.formulas.specs.Tree.{formula_tree, bottom, holds, joined, or_else, quantified, there_is};
 ghost use Rattle.formulas.specs.Sorts.{well_sorted, fits};
-ghost use Rattle.formulas.specs.Substitution.{instance, shift};
+ghost use Rattle.formulas.specs.Substitution.{instance};
 ghost use Rattle.proof_terms.specs.Tree.{proof_tree};
 ghost use Rattle.type_checker.specs.Found.{found_tree};
 ghost use Rattle.type_checker.specs.Place.{is_assumable};

@@ -1,7 +1,7 @@
 //! A formula that the walk found, without a copy of what the proof and its context say.
 
 ghost use Rattle.std.specs.Prelude.{◌≡◌, IfOk, IfSome};
-ghost use Rattle.formulas.specs.Tree.{formula_tree, joined, quantified, implies, and_also, or_else, for_all, there_is};
+ghost use Rattle.formulas.specs.Tree.{formula_tree};
 ghost use Rattle.type_checker.specs.Found.{found_tree};
 ghost use Rattle.type_checker.specs.Interner.{formula_at};
 
