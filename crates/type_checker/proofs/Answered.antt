@@ -1,5 +1,5 @@
 -- What an answer without a formula tells.
-use Rattle.std.proofs.Common.{◌≡◌, ℕ, List, Result, Ok, Err, IfErr}
+use Rattle.std.proofs.Common.{◌≡◌, List, Result, Err, IfErr}
 use Rattle.ck_base.specs.declared.decl.Sort.{Sort}
 use Rattle.ck_base.specs.declared.decl.Decl.{Decl}
 use Rattle.formulas.specs.Tree.{FormulaTree}

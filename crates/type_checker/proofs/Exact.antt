@@ -19,7 +19,7 @@ use Rattle.type_checker.specs.Place.{proof_nodes, is_assumable, AreAssumable}
 use Rattle.type_checker.specs.Same.{same_formula}
 use Rattle.type_checker.specs.Rules.{given, computes, of_leaf, special_of, first_of, second_of, denied_of, and_then, is_ring_equation, of_one, applied, rewritten, of_two, of_cases, of_unpacked}
 use Rattle.type_checker.specs.Walk.{Walk, found_at, found, continued, with_sides, with_body, walked}
-use Rattle.type_checker.proofs.Same.{formula_is, formula_same}
+use Rattle.type_checker.specs.SameLaws.{formula_is, formula_same}
 use Rattle.type_checker.proofs.Rings.{ring_is, is_ring}
 use Rattle.type_checker.proofs.Sides.{fits_left_side}
 use Rattle.type_checker.proofs.Sorted.{sort_known, known_sort, assumable}

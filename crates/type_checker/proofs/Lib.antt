@@ -1,4 +1,3 @@
-pub mod Same
 pub mod Rings
 pub mod Symmetry
 pub mod Raising
@@ -14,3 +13,4 @@ pub mod Exact
 pub mod Firsts
 pub mod Answered
 pub mod Linked
+pub mod Gathered

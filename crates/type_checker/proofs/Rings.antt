@@ -5,10 +5,10 @@ use Rattle.sorted_terms.specs.Tree.{TermTree}
 use Rattle.sorted_terms.specs.Values.{same_integer}
 use Rattle.sorted_terms.specs.Weights.{term_weight, term_expansions}
 use Rattle.arith_axioms.specs.Polynomials.{Product, Polynomial, expansion, same_product, total_in, total, IsSamePolynomial}
-use Rattle.arith_axioms.specs.Ring.{AreWithin, IsRingEquation}
+use Rattle.arith_axioms.specs.Ring.{IsRingEquation}
 use Rattle.arith_axioms.proofs.Totals.{products_same}
 use Rattle.type_checker.specs.Rules.{same_total, same_totals, is_ring_equation}
-use Rattle.type_checker.proofs.Same.{integer_is, integer_same}
+use Rattle.type_checker.specs.SameLaws.{integer_is, integer_same}
 
 -- a product does not occur, or its totals are the same
 agreed : (s t : TermTree) (es : Polynomial) (p : Product) → same_totals s t es ≡ true → (total_in es p ≡ pos 0) ⊎ (total p s ≡ total p t)

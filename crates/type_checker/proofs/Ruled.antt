@@ -1,13 +1,12 @@
 -- What the rules compute from formulas that fit.
-use Rattle.std.proofs.Common.{◌≡◌, ℕ, zero, suc, ◌+◌, ◌<◌, ◌≤◌, ◌^◌, max, Bool, true, false, ◌&&◌, not, if◌then◌else◌, List, [], ◌∷◌, length, Option, Some, None, slice_get, refl, sym, ap, subst, ◌∙◌, arith}
-use Rattle.std.proofs.lemmas.Bool.{and_parts}
+use Rattle.std.proofs.Common.{◌≡◌, ℕ, zero, suc, ◌+◌, ◌<◌, ◌≤◌, ◌^◌, Bool, true, false, ◌&&◌, if◌then◌else◌, List, [], ◌∷◌, length, Option, Some, None, slice_get, refl, sym, subst, ◌∙◌, arith}
 use Rattle.ck_base.specs.declared.decl.Sort.{Sort}
 use Rattle.ck_base.specs.declared.decl.Sort.TheVariants as sort
 use Rattle.ck_base.specs.declared.decl.Decl.{Decl}
 use Rattle.sorted_terms.specs.Tree.{TermTree, boolean, binary, equal}
 use Rattle.sorted_terms.specs.Sorts.{sort_of, has_sort}
-use Rattle.formulas.specs.Tree.{FormulaTree, Connective, implies, and_also, or_else, Quantifier, for_all, there_is, bottom, holds, joined, quantified}
-use Rattle.formulas.specs.Sorts.{size, depth, fits, well_sorted}
+use Rattle.formulas.specs.Tree.{FormulaTree, implies, and_also, or_else, for_all, bottom, holds, joined, quantified}
+use Rattle.formulas.specs.Sorts.{depth, fits, well_sorted}
 use Rattle.formulas.specs.Substitution.{shift, instance, occurs, HasIndicesBelow}
 use Rattle.formulas.specs.Context.{AllIndicesBelow}
 use Rattle.formulas.proofs.Substituting.{undone}
@@ -15,7 +14,7 @@ use Rattle.arith_axioms.specs.Axioms.{induction as induction_form}
 use Rattle.type_checker.specs.Place.{is_assumable, AreAssumable}
 use Rattle.type_checker.specs.Rules.{fitting, given, first_of, second_of, denied_of, and_then, applied, of_cases, of_unpacked}
 use Rattle.type_checker.specs.Same.{same_formula}
-use Rattle.type_checker.proofs.Same.{formula_is}
+use Rattle.type_checker.specs.SameLaws.{formula_is}
 use Rattle.type_checker.proofs.Sides.{fits_bounds, fits_left_side, fits_right_side, fits_body}
 use Rattle.type_checker.proofs.Sorted.{shift_fits, assumable_fits, assumable_sorted, sort_known}
 use Rattle.type_checker.proofs.Rooms.{sorted_indices, fitting_instance_room}

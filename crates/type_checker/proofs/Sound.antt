@@ -17,7 +17,7 @@ use Rattle.arith_axioms.proofs.Constants.{computed_true}
 use Rattle.arith_axioms.proofs.Totals.{equal_terms}
 use Rattle.proof_terms.specs.Tree.{ProofTree, hypothesis, lambda, application, general, special, pair, first, second, left_of, right_of, by_cases, pack, unpack, from_bottom, stable, reflexive, rewriting, an_axiom, induction, computing, ring_equal}
 use Rattle.type_checker.specs.Typing.{Has}
-use Rattle.type_checker.proofs.Same.{integer_is, integer_same, boolean_is, boolean_same}
+use Rattle.type_checker.specs.SameLaws.{integer_is, integer_same, boolean_is, boolean_same}
 
 one_true : (hypotheses : List FormulaTree) (k : ℕ) (a : FormulaTree) (state : State) (environment : Environment) → AllTrue hypotheses state environment → slice_get hypotheses k ≡ Some a → Truth a state environment
 one_true [] k a state environment all e = absurd (cc)

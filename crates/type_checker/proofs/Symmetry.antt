@@ -2,7 +2,7 @@
 use Rattle.std.proofs.Common.{◌≡◌, Bool, true, false, refl, sym, subst, ◌∙◌}
 use Rattle.formulas.specs.Tree.{FormulaTree}
 use Rattle.type_checker.specs.Same.{same_formula}
-use Rattle.type_checker.proofs.Same.{formula_is, formula_same}
+use Rattle.type_checker.specs.SameLaws.{formula_is, formula_same}
 
 apart : false ≡ true → ⊥
 apart e = absurd (cc)

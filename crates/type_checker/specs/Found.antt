@@ -1,5 +1,5 @@
 -- The formula that a found one of the code stands for, where the interner holds these formulas.
-use Rattle.std.specs.Prelude.{ℕ, List}
+use Rattle.std.specs.Prelude.{List, Option, Some, None, slice_get}
 use Rattle.formulas.specs.declared.formula.Formula.{Formula}
 use Rattle.formulas.specs.Tree.{FormulaTree, formula_tree, implies, and_also, or_else, for_all, there_is, bottom, holds, joined, quantified}
 use Rattle.sorted_terms.specs.Tree.{term_tree}
@@ -18,6 +18,12 @@ found_tree formulas (Conj' p a q b) = joined and_also (found_tree formulas a) (f
 found_tree formulas (Disj' p a q b) = joined or_else (found_tree formulas a) (found_tree formulas b)
 found_tree formulas (All' s p a) = quantified for_all s (found_tree formulas a)
 found_tree formulas (Ex' s p a) = quantified there_is s (found_tree formulas a)
+
+-- the formula of the proof or its context that the found one is, where it was not made
+abbrev pub standing : List Formula → Found → Option Formula
+standing formulas (Interned number) = slice_get formulas number
+standing formulas (Known a) = Some a.now
+standing formulas a = None
 
 -- the formula with a head over found parts
 abbrev pub head_tree : List Formula → Head → FormulaTree

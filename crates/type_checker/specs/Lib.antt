@@ -2,10 +2,14 @@ pub mod Typing
 pub mod Laws
 pub mod Place
 pub mod Same
+pub mod SameLaws
 pub mod Rules
 pub mod Walk
+pub mod Keys
+pub mod KeyLaws
 pub mod Interner
 pub mod Linked
+pub mod Gathered
 pub mod Found
 pub mod Gives
 pub mod Scope

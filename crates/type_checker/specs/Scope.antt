@@ -2,7 +2,6 @@
 use Rattle.std.specs.Prelude.{ℕ, suc, List, ◌∷◌}
 use Rattle.formulas.specs.declared.formula.Formula.{Formula}
 use Rattle.formulas.specs.Tree.{FormulaTree, formula_tree}
-use Rattle.formulas.specs.Substitution.{shift}
 use Rattle.formulas.specs.Context.{hypotheses_of, raised}
 use Rattle.type_checker.specs.Found.{found_tree}
 use Rattle.type_checker.specs.declared.scope.Scope.{Scope}

@@ -59,7 +59,7 @@ fn spend(interner: &Interner, a: &Found, nodes: u32, levels: u32) -> Option<u32>
 }
 
 // The same for the formula with that number, which is not looked at.
-fn spend_interned(interner: &Interner, number: u32, nodes: u32, levels: u32) -> Option<u32>
+fn spend_interned(interner: &Interner, number: usize, nodes: u32, levels: u32) -> Option<u32>
     ensures within { IfSome result (λ left. (nodes_of (formula_at interner.now number) + left ≡ nodes) × (levels_of (formula_at interner.now number) ≤ levels)) }
     ensures beyond { IfNone result ((nodes < nodes_of (formula_at interner.now number)) ⊎ (levels < levels_of (formula_at interner.now number))) }
 {
@@ -71,7 +71,7 @@ fn spend_interned(interner: &Interner, number: u32, nodes: u32, levels: u32) -> 
 }
 
 // The nodes and levels of the formula with that number.
-fn extent(interner: &Interner, number: u32) -> (u32, u32)
+fn extent(interner: &Interner, number: usize) -> (u32, u32)
     ensures nodes { result.0 ≡ nodes_of (formula_at interner.now number) }
     ensures levels { result.1 ≡ levels_of (formula_at interner.now number) }
 {

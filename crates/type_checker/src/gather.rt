@@ -1,19 +1,31 @@
 //! The formulas that a proof names, under numbers.
 
+ghost use Rattle.std.specs.Prelude.{ℕ, IfOk, OnOk};
+ghost use Rattle.formulas.specs.Tree.{FormulaTree};
+ghost use Rattle.proof_terms.specs.Tree.{proof_tree};
+ghost use Rattle.type_checker.specs.Interner.{IsAt};
+ghost use Rattle.type_checker.specs.Gathered.{AreNumbered};
+
 use crate::interner::Interner;
 use ck_base::NoMemory;
 use proof_terms::Proof;
 use std::alloc::Global;
 
-/// Those that the rules put into a formula of their own. `NoMemory`, here and below, where memory was
+/// Those that the rules put into a formula of their own, if they fit. `NoMemory`, here and below, where memory was
 /// refused.
-pub fn gathered<'f>(alloc: Global, p: &'f Proof) -> Result<Interner<'f>, NoMemory> {
+pub fn gathered<'f>(alloc: Global, p: &'f Proof) -> Result<Interner<'f>, NoMemory>
+    ensures { IfOk result (λ it. AreNumbered it (proof_tree p.now)) }
+{
     let mut interner = Interner::new(alloc);
     gather(&mut interner, p)?;
     Ok(interner)
 }
 
-fn gather<'f>(interner: &mut Interner<'f>, p: &'f Proof) -> Result<(), NoMemory> {
+// What has a number keeps it.
+fn gather<'f>(interner: &mut Interner<'f>, p: &'f Proof) -> Result<(), NoMemory>
+    ensures numbered { OnOk result (AreNumbered interner.new (proof_tree p.now)) }
+    ensures kept { (i : ℕ) (f : FormulaTree) → IsAt interner.old i f → IsAt interner.new i f }
+{
     match p {
         Proof::Hyp(_)
         | Proof::Refl(_)

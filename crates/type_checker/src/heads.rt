@@ -41,7 +41,7 @@ pub fn opened<'f>(interner: &Interner<'f>, f: Found<'f>) -> Head<'f>
 }
 
 // The formula with that number. Its parts are known by theirs.
-fn interned_head<'f>(interner: &Interner<'f>, number: u32) -> Head<'f>
+fn interned_head<'f>(interner: &Interner<'f>, number: usize) -> Head<'f>
     ensures { head_tree interner.now result ≡ formula_at interner.now number }
 {
     let Some(entry) = interner.entry(number) else {

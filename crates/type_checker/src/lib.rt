@@ -4,11 +4,13 @@
 //! and the place of a fault is defined in `specs/Place.antt`. The rules computed (`specs/Rules.antt`,
 //! `specs/Walk.antt`) are what the code follows; that they tell the same, and that typing is sound, are laws
 //! (`laws`). The formulas that a proof names have numbers (`interner`, `specs/Interner.antt`), so that equal
-//! ones are not looked at again.
+//! ones are not looked at again; when two nodes of that table are equal is told by `hashed` (`specs/Keys.antt`).
+//! `SameLaws` and `KeyLaws` in `specs/` are no definitions but lemmas, which the laws of `==` cite.
 #![tactic(auto)]
 
 mod fitting;
 mod gather;
+mod hashed;
 mod heads;
 mod instances;
 mod interner;

@@ -7,9 +7,10 @@ ghost use Rattle.type_checker.specs.Found.{found_tree};
 ghost use Rattle.type_checker.specs.Interner.{formula_at};
 ghost use Rattle.type_checker.specs.Same.{same_formula};
 
+use crate::hashed::is_same;
 use crate::interner::Interner;
 use crate::typed::Found;
-use formulas::{Formula, same};
+use formulas::Formula;
 
 /// Whether the formula is the found one.
 pub fn matches(interner: &Interner, a: &Formula, b: &Found) -> bool
@@ -68,7 +69,7 @@ pub fn is_bottom(interner: &Interner, f: &Found) -> bool
     }
 }
 
-fn is_bottom_at(interner: &Interner, number: u32) -> bool
+fn is_bottom_at(interner: &Interner, number: usize) -> bool
     ensures { result ≡ same_formula bottom (formula_at interner.now number) }
 {
     match interner.entry(number) {
@@ -81,7 +82,7 @@ fn is_bottom_at(interner: &Interner, number: u32) -> bool
 }
 
 // Whether the formula with that number is the found one.
-fn is_numbered(interner: &Interner, number: u32, b: &Found) -> bool
+fn is_numbered(interner: &Interner, number: usize, b: &Found) -> bool
     ensures { result ≡ same_formula (formula_at interner.now number) (found_tree interner.now b.now) }
 {
     let Some(entry) = interner.entry(number) else {
@@ -107,8 +108,8 @@ fn is_numbered(interner: &Interner, number: u32, b: &Found) -> bool
 }
 
 // Whether the formulas with these numbers are the same.
-#[tactic(auto, using(crate::proofs::Same::formula_same))]
-fn same_numbered(interner: &Interner, number: u32, other: u32) -> bool
+#[tactic(auto, using(crate::specs::SameLaws::formula_same))]
+fn same_numbered(interner: &Interner, number: usize, other: usize) -> bool
     ensures { result ≡ same_formula (formula_at interner.now number) (formula_at interner.now other) }
 {
     if number == other {
@@ -121,7 +122,7 @@ fn same_numbered(interner: &Interner, number: u32, other: u32) -> bool
 }
 
 #[tactic(auto, using(crate::proofs::Symmetry::same_either_way))]
-fn has_number(interner: &Interner, a: &Found, number: u32) -> bool
+fn has_number(interner: &Interner, a: &Found, number: usize) -> bool
     ensures { result ≡ same_formula (found_tree interner.now a.now) (formula_at interner.now number) }
 {
     is_numbered(interner, number, a)
@@ -135,7 +136,7 @@ fn is_found(interner: &Interner, a: &Found, b: &Formula) -> bool
 }
 
 // Whether the formula is the one with that number.
-fn is_at(interner: &Interner, a: &Formula, number: u32) -> bool
+fn is_at(interner: &Interner, a: &Formula, number: usize) -> bool
     ensures { result ≡ same_formula (formula_tree a.now) (formula_at interner.now number) }
 {
     match interner.entry(number) {
@@ -145,10 +146,4 @@ fn is_at(interner: &Interner, a: &Formula, number: u32) -> bool
             _ => false,
         },
     }
-}
-
-fn is_same(a: &Formula, b: &Formula) -> bool
-    ensures { result ≡ same_formula (formula_tree a.now) (formula_tree b.now) }
-{
-    same(a, b)
 }

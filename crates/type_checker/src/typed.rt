@@ -2,7 +2,8 @@
 
 ghost use Rattle.std.specs.Prelude.{◌≡◌, IfOk, IfSome};
 ghost use Rattle.formulas.specs.Tree.{formula_tree};
-ghost use Rattle.type_checker.specs.Found.{found_tree};
+ghost use Rattle.std.specs.Option.{option_copied};
+ghost use Rattle.type_checker.specs.Found.{found_tree, standing};
 ghost use Rattle.type_checker.specs.Interner.{formula_at};
 
 use crate::interner::Interner;
@@ -14,7 +15,7 @@ use std::alloc::Global;
 /// substitution or an axiom made, or a connective or quantifier that a rule put on top of found formulas.
 #[derive(Drop)]
 pub enum Found<'f> {
-    Interned(u32),
+    Interned(usize),
     Known(&'f Formula),
     Built(Formula),
     Imp(Box<Found<'f>>, Box<Found<'f>>),
@@ -34,9 +35,11 @@ pub fn known<'f>(interner: &Interner<'f>, a: &'f Formula) -> Found<'f>
     }
 }
 
-/// The formula of the proof or its context that the found one is; `None` where it was made. It takes no memory.
+/// The formula of the proof or its context that the found one is; `None` exactly where it was made. It takes no
+/// memory.
 pub fn as_formula<'f>(interner: &Interner<'f>, a: &Found<'f>) -> Option<&'f Formula>
-    ensures { IfSome result (λ r. formula_tree r.now ≡ found_tree interner.now a.now) }
+    ensures standing { option_copied result ≡ standing interner.now a.now }
+    ensures same { IfSome result (λ r. formula_tree r.now ≡ found_tree interner.now a.now) }
 {
     match a {
         Found::Interned(number) => {
@@ -56,7 +59,7 @@ fn boxed(alloc: Global, a: Formula) -> Result<Box<Formula>, NoMemory>
 
 // A copy of the formula with that number.
 #[inline(never)]
-fn copy_at(alloc: Global, interner: &Interner, number: u32) -> Result<Formula, NoMemory>
+fn copy_at(alloc: Global, interner: &Interner, number: usize) -> Result<Formula, NoMemory>
     ensures { IfOk result (λ r. formula_tree r ≡ formula_at interner.now number) }
 {
     match interner.entry(number) {

@@ -1,4 +1,4 @@
-use Rattle.std.proofs.Common.{◌≡◌, ℕ, ◌+◌, ◌<◌, ◌≤◌, ◌^◌, true, length, List, ◌∷◌, Ok, ap, subst, arith}
+use Rattle.std.proofs.Common.{◌≡◌, ℕ, ◌+◌, true, List, ◌∷◌, Ok, ap, subst, arith}
 use Rattle.ck_base.specs.declared.decl.Decl.{Decl}
 use Rattle.ck_base.specs.declared.decl.Sort.{Sort}
 use Rattle.sorted_terms.specs.Variables.{sorts_in}
