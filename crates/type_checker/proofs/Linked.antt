@@ -1,5 +1,5 @@
 -- What the table of an interner tells, and that it stays when one more node stands behind the others.
-use Rattle.std.proofs.Common.{◌≡◌, Bool, true, false, true≢false, ℕ, zero, suc, ◌+◌, ◌<◌, List, [], ◌∷◌, ◌++◌, length, slice_get, Some, None, Option, IfSome, IfNone, ◌⊎◌, inl, inr, cond, not, position, le-ltb, lt-ltb, arith, refl, sym, ap, subst, ◌∙◌}
+use Rattle.std.proofs.Common.{◌≡◌, Bool, true, false, true≢false, ℕ, zero, suc, ◌+◌, ◌<◌, List, [], ◌∷◌, ◌++◌, length, slice_get, Some, None, Option, IfSome, ◌⊎◌, inl, inr, cond, not, position, le-ltb, lt-ltb, arith, refl, sym, ap, subst, ◌∙◌}
 use Rattle.std.specs.List.{AllByRecursion, IsDistinct, position_or_len}
 use Rattle.std.specs.Map.{keys_of}
 use Rattle.std.specs.Ordering.{on}
@@ -9,7 +9,8 @@ use Rattle.formulas.specs.Tree.{FormulaTree, formula_tree, bottom, holds, joined
 use Rattle.formulas.specs.declared.formula.Formula.{Formula}
 use Rattle.type_checker.specs.declared.hashed.Node.{Node}
 use Rattle.type_checker.specs.declared.interner.Extent.{Extent}
-use Rattle.type_checker.specs.Interner.{IsAt, HasParts, or_bottom}
+use Rattle.formulas.specs.Sorts.{size, depth}
+use Rattle.type_checker.specs.Interner.{IsAt, HasParts, or_bottom, formula_at}
 use Rattle.type_checker.specs.Keys.{head_of, key_of, same_key}
 use Rattle.type_checker.specs.Linked.{formulas_of, IsLinked, AreLinked}
 use Rattle.type_checker.specs.KeyLaws.{key_is, key_same}
@@ -43,19 +44,35 @@ is_at [] n e h = absurd h
 is_at (d ∷ entries) zero e h = (omega arith, ap tree_of h)
 is_at (d ∷ entries) (suc n) e h = let p = is_at entries n e h in (omega (arith, p.0), p.1)
 
-pub linked_at : (formulas : List Formula) (entries : List Item) (n : ℕ) (e : Item) → Stands entries n e → AreLinked formulas entries → IsLinked formulas e
+linked_at : (formulas : List Formula) (entries : List Item) (n : ℕ) (e : Item) → Stands entries n e → AreLinked formulas entries → IsLinked formulas e
 linked_at formulas [] n e h linked = absurd h
 linked_at formulas (d ∷ entries) zero e h linked = subst (λ x. IsLinked formulas x) h linked.0
 linked_at formulas (d ∷ entries) (suc n) e h linked = linked_at formulas entries n e h linked.1
 
 -- what an item that was read tells
-pub read_at : (entries : List Item) (n : ℕ) (e : Item) → slice_get entries n ≡ Some e → Stands entries n e
+read_at : (entries : List Item) (n : ℕ) (e : Item) → slice_get entries n ≡ Some e → Stands entries n e
 read_at [] n e h = absurd (cc)
 read_at (d ∷ entries) zero e h = cc
 read_at (d ∷ entries) (suc n) e h = read_at entries n e h
 
-pub linked_entry : (formulas : List Formula) (entries : List Item) (n : ℕ) (e : Item) → formulas_of entries ≡ formulas → AreLinked (formulas_of entries) entries → slice_get entries n ≡ Some e → IsLinked formulas e
-linked_entry formulas entries n e whole linked h = subst (λ fs. IsLinked fs e) whole (linked_at (formulas_of entries) entries n e (read_at entries n e h) linked)
+none_at : (entries : List Item) (n : ℕ) → slice_get entries n ≡ None → or_bottom (slice_get (formulas_of entries) n) ≡ bottom
+none_at [] n h = refl
+none_at (e ∷ entries) zero h = absurd (cc)
+none_at (e ∷ entries) (suc n) h = none_at entries n h
+
+module _ (formulas : List Formula) (entries : List Item) (n : ℕ) (whole : formulas_of entries ≡ formulas) where
+  pub parts_read : (e : Item) → AreLinked (formulas_of entries) entries → slice_get entries n ≡ Some e → HasParts formulas (tree_of e) e.0.left e.0.right
+  parts_read e linked h = subst (λ fs. HasParts fs (tree_of e) e.0.left e.0.right) whole (linked_at (formulas_of entries) entries n e (read_at entries n e h) linked).0
+
+  pub extent_read : (e : Item) → AreLinked (formulas_of entries) entries → slice_get entries n ≡ Some e → (e.1.nodes ≡ size (formula_at formulas n)) × (e.1.levels ≡ depth (formula_at formulas n))
+  extent_read e linked h =
+      let place = read_at entries n e h in
+      let is : formula_at formulas n ≡ tree_of e = subst (λ fs. formula_at fs n ≡ tree_of e) whole (is_at entries n e place).1 in
+      let link = linked_at (formulas_of entries) entries n e place linked in
+      (link.1 ∙ sym (ap size is), link.2 ∙ sym (ap depth is))
+
+  pub bottom_read : slice_get entries n ≡ None → formula_at formulas n ≡ bottom
+  bottom_read h = subst (λ fs. formula_at fs n ≡ bottom) whole (none_at entries n h)
 
 -- ---- no two nodes of a table are equal, so no formula has two numbers
 
@@ -64,7 +81,7 @@ apart_after [] d n e h s k = s
 apart_after (f ∷ entries) d zero e h s k = true≢false (sym (subst (λ x. same_key (key_of d) x ≡ true) (k ∙ ap (λ x. key_of x.0) (sym s)) (key_same (key_of d))) ∙ h.0)
 apart_after (f ∷ entries) d (suc n) e h s k = apart_after entries d n e h.1 s k
 
-pub one_place : (entries : List Item) (m n : ℕ) (d e : Item) → IsDistinct (on key_of same_key) (keys_of entries) → Stands entries m d → Stands entries n e → key_of d.0 ≡ key_of e.0 → m ≡ n
+one_place : (entries : List Item) (m n : ℕ) (d e : Item) → IsDistinct (on key_of same_key) (keys_of entries) → Stands entries m d → Stands entries n e → key_of d.0 ≡ key_of e.0 → m ≡ n
 unfolding IsDistinct
 one_place [] m n d e h s t k = absurd s
 one_place (f ∷ entries) zero zero d e h s t k = refl
@@ -87,14 +104,14 @@ module _ (entries : List Item) (linked : AreLinked (formulas_of entries) entries
       let e_parts = subst (λ x. HasParts (formulas_of entries) x e.0.0.left e.0.0.right) e.2 (linked_at (formulas_of entries) entries n e.0 e.1 linked).0 in
       one_place entries m n d.0 e.0 distinct d.1 e.1 (one_key a d.0.0 e.0.0 agree d.2 e.2 d_parts e_parts)
 
-  pub parts_agree : (a : FormulaTree) → Agree a
+  parts_agree : (a : FormulaTree) → Agree a
   parts_agree bottom l r l' r' h k = (h.0 ∙ sym k.0, h.1 ∙ sym k.1)
   parts_agree (holds t) l r l' r' h k = (h.0 ∙ sym k.0, h.1 ∙ sym k.1)
   parts_agree (joined c a b) l r l' r' h k = (one_number a l l' (parts_agree a) h.0 k.0, one_number b r r' (parts_agree b) h.1 k.1)
   parts_agree (quantified q s a) l r l' r' h k = (one_number a l l' (parts_agree a) h.0 k.0, h.1 ∙ sym k.1)
 
   -- a node that no key of the table equals is of a formula without a number
-  pub no_number : (q : Node) → HasParts (formulas_of entries) (formula_tree q.formula.now) q.left q.right → AllByRecursion (λ y. on key_of same_key q y ≡ false) (keys_of entries) → (n : ℕ) → IsAt (formulas_of entries) n (formula_tree q.formula.now) → ⊥
+  no_number : (q : Node) → HasParts (formulas_of entries) (formula_tree q.formula.now) q.left q.right → AllByRecursion (λ y. on key_of same_key q y ≡ false) (keys_of entries) → (n : ℕ) → IsAt (formulas_of entries) n (formula_tree q.formula.now) → ⊥
   no_number q parts absent n h =
       let e = stands entries n (formula_tree q.formula.now) h in
       let e_parts = subst (λ x. HasParts (formulas_of entries) x e.0.0.left e.0.0.right) e.2 (linked_at (formulas_of entries) entries n e.0 e.1 linked).0 in
@@ -132,12 +149,8 @@ found_is_at entries q n e linked parts s k =
 
 -- ---- the first node that passes a test
 
-none_some : (n : ℕ) → None ≡ Some n → ⊥
+pub none_some : (n : ℕ) → None ≡ Some n → ⊥
 none_some n e = absurd (cc)
-
-pub on_none : {P : Type 0} (r : Option ℕ) → P → IfNone r P
-on_none None p = p
-on_none (Some n) p = tt
 
 keys_count : (entries : List Item) → length (keys_of entries) ≡ length entries
 keys_count [] = refl
@@ -170,7 +183,7 @@ module _ (test : Node → Bool) where
       ap (λ b. cond b (Some (position_or_len test (keys_of entries))) None) (lt-ltb (position_or_len test (keys_of entries)) (length (keys_of entries)) (omega (arith, f.4, f.5, keys_count entries)))
       ∙ ap (λ n. Some n) f.4
 
-  pub absent_from : (entries : List Item) → position test (keys_of entries) ≡ None → Absent entries
+  absent_from : (entries : List Item) → position test (keys_of entries) ≡ None → Absent entries
   absent_from entries p = elim (first_of entries) [ inl a ↦ a | inr f ↦ absurd (none_some f.0 (sym p ∙ first_some entries f)) ]
 
 module _ (formulas : List Formula) (entries : List Item) (whole : formulas_of entries ≡ formulas) (linked : AreLinked (formulas_of entries) entries) (q : Node) (parts : HasParts formulas (formula_tree q.formula.now) q.left q.right) where
@@ -185,20 +198,17 @@ module _ (formulas : List Formula) (entries : List Item) (whole : formulas_of en
         (subst (λ fs. IsAt fs f.0 (formula_tree q.formula.now)) whole (found_is_at entries q f.0 f.1 linked own_parts f.2 f.3))
   ]
 
-  -- and where it finds none
-  pub not_found : IsDistinct (on key_of same_key) (keys_of entries) → (r : Option ℕ) → r ≡ position (on key_of same_key q) (keys_of entries) → IfNone r ((n : ℕ) → IsAt formulas n (formula_tree q.formula.now) → ⊥)
-  not_found distinct r is = elim (first_of (on key_of same_key q) entries) [
-    | inl a ↦ on_none r (λ n h. no_number entries linked distinct q own_parts a.0 n (subst (λ fs. IsAt fs n (formula_tree q.formula.now)) (sym whole) h))
-    | inr f ↦ subst (λ o. IfNone o ((n : ℕ) → IsAt formulas n (formula_tree q.formula.now) → ⊥)) (sym (is ∙ first_some (on key_of same_key q) entries f)) tt
-  ]
-
--- a node that equals none goes last
-module _ (q : Node) (extent : Extent) (entries : List Item) (none : None ≡ position (on key_of same_key q) (keys_of entries)) where
-  pub appended : (after : List Item) → after ≡ insert_entry (on key_of same_key) entries q extent → after ≡ entries ++ (q, extent) ∷ []
-  appended after is = is ∙ insert_entry-absent (on key_of same_key) q extent entries (absent_from (on key_of same_key q) entries (sym none)).0
-
-  pub last_number : (n : ℕ) → n ≡ position_or_len (on key_of same_key q) (keys_of entries) → n ≡ length entries
-  last_number n is = is ∙ (absent_from (on key_of same_key q) entries (sym none)).1
+  -- and that no other number is that of the formula
+  pub only : IsDistinct (on key_of same_key) (keys_of entries) → (r : Option ℕ) → r ≡ position (on key_of same_key q) (keys_of entries) → (n : ℕ) → IsAt formulas n (formula_tree q.formula.now) → r ≡ Some n
+  only distinct r is n h =
+      let own = subst (λ fs. IsAt fs n (formula_tree q.formula.now)) (sym whole) h in
+      elim (first_of (on key_of same_key q) entries) [
+        | inl a ↦ absurd (no_number entries linked distinct q own_parts a.0 n own)
+        | inr f ↦
+            let first = found_is_at entries q f.0 f.1 linked own_parts f.2 f.3 in
+            let one : f.0 ≡ n = one_number entries linked distinct (formula_tree q.formula.now) f.0 n (parts_agree entries linked distinct (formula_tree q.formula.now)) first own in
+            is ∙ first_some (on key_of same_key q) entries f ∙ ap (λ m. Some m) one
+      ]
 
 -- ---- one more node, behind all
 
@@ -236,19 +246,27 @@ formulas_pushed : (entries : List Item) (e : Item) → formulas_of (entries ++ e
 formulas_pushed [] e = refl
 formulas_pushed (d ∷ entries) e = ap (λ fs. d.0.formula.now ∷ fs) (formulas_pushed entries e)
 
-module _ (entries after : List Item) (e : Item) (is : after ≡ entries ++ e ∷ []) where
-  formulas_after : formulas_of after ≡ formulas_of entries ++ e.0.formula.now ∷ []
-  formulas_after = ap formulas_of is ∙ formulas_pushed entries e
+-- a node that equals none goes behind all
+module _ (q : Node) (extent : Extent) (entries after : List Item) (none : None ≡ position (on key_of same_key q) (keys_of entries)) (is : after ≡ insert_entry (on key_of same_key) entries q extent) where
+  absent : Absent (on key_of same_key q) entries
+  absent = absent_from (on key_of same_key q) entries (sym none)
 
-  pub kept_after : (n : ℕ) (a : FormulaTree) → IsAt (formulas_of entries) n a → IsAt (formulas_of after) n a
-  kept_after n a h = subst (λ fs. IsAt fs n a) (sym formulas_after) (is_at_kept (formulas_of entries) e.0.formula.now n a h)
+  put_last : after ≡ entries ++ (q, extent) ∷ []
+  put_last = is ∙ insert_entry-absent (on key_of same_key) q extent entries absent.0
 
-  pub number_after : (n : ℕ) → n ≡ length entries → IsAt (formulas_of after) n (tree_of e)
+  formulas_after : formulas_of after ≡ formulas_of entries ++ q.formula.now ∷ []
+  formulas_after = ap formulas_of put_last ∙ formulas_pushed entries (q, extent)
+
+  pub kept_after : (formulas : List Formula) → formulas_of entries ≡ formulas → (n : ℕ) (a : FormulaTree) → IsAt formulas n a → IsAt (formulas_of after) n a
+  kept_after formulas whole n a h = subst (λ fs. IsAt fs n a) (sym formulas_after) (is_at_kept (formulas_of entries) q.formula.now n a (subst (λ fs. IsAt fs n a) (sym whole) h))
+
+  pub number_after : (n : ℕ) → n ≡ position_or_len (on key_of same_key q) (keys_of entries) → IsAt (formulas_of after) n (formula_tree q.formula.now)
   number_after n h =
-      let end : n ≡ length (formulas_of entries) = h ∙ sym (count entries) in
-      subst (λ fs. IsAt fs n (tree_of e)) (sym formulas_after) (subst (λ m. IsAt (formulas_of entries ++ e.0.formula.now ∷ []) m (tree_of e)) (sym end) (is_at_end (formulas_of entries) e.0.formula.now))
+      let end : n ≡ length (formulas_of entries) = h ∙ absent.1 ∙ sym (count entries) in
+      subst (λ fs. IsAt fs n (formula_tree q.formula.now)) (sym formulas_after) (subst (λ m. IsAt (formulas_of entries ++ q.formula.now ∷ []) m (formula_tree q.formula.now)) (sym end) (is_at_end (formulas_of entries) q.formula.now))
 
-  pub linked_after : AreLinked (formulas_of entries) entries → IsLinked (formulas_of entries) e → AreLinked (formulas_of after) after
-  linked_after linked h =
-      let one : IsLinked (formulas_of entries ++ e.0.formula.now ∷ []) e = (parts_kept (formulas_of entries) e.0.formula.now (tree_of e) e.0.left e.0.right h.0, h.1, h.2) in
-      subst (λ fs. AreLinked fs after) (sym formulas_after) (subst (λ es. AreLinked (formulas_of entries ++ e.0.formula.now ∷ []) es) (sym is) (linked_pushed (formulas_of entries) e.0.formula.now entries e linked one))
+  pub linked_after : (formulas : List Formula) → formulas_of entries ≡ formulas → AreLinked (formulas_of entries) entries → IsLinked formulas (q, extent) → AreLinked (formulas_of after) after
+  linked_after formulas whole linked h =
+      let own = subst (λ fs. IsLinked fs (q, extent)) (sym whole) h in
+      let pushed : IsLinked (formulas_of entries ++ q.formula.now ∷ []) (q, extent) = (parts_kept (formulas_of entries) q.formula.now (formula_tree q.formula.now) q.left q.right own.0, own.1, own.2) in
+      subst (λ fs. AreLinked fs after) (sym formulas_after) (subst (λ es. AreLinked (formulas_of entries ++ q.formula.now ∷ []) es) (sym put_last) (linked_pushed (formulas_of entries) q.formula.now entries (q, extent) linked pushed))

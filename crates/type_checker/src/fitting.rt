@@ -63,22 +63,11 @@ fn spend_interned(interner: &Interner, number: usize, nodes: u32, levels: u32) -
     ensures within { IfSome result (λ left. (nodes_of (formula_at interner.now number) + left ≡ nodes) × (levels_of (formula_at interner.now number) ≤ levels)) }
     ensures beyond { IfNone result ((nodes < nodes_of (formula_at interner.now number)) ⊎ (levels < levels_of (formula_at interner.now number))) }
 {
-    let (own_nodes, own_levels) = extent(interner, number);
-    if own_levels > levels {
+    let extent = interner.extent(number);
+    if extent.levels > levels {
         return None;
     }
-    nodes.checked_sub(own_nodes)
-}
-
-// The nodes and levels of the formula with that number.
-fn extent(interner: &Interner, number: usize) -> (u32, u32)
-    ensures nodes { result.0 ≡ nodes_of (formula_at interner.now number) }
-    ensures levels { result.1 ≡ levels_of (formula_at interner.now number) }
-{
-    match interner.entry(number) {
-        Some(entry) => (entry.nodes, entry.levels),
-        None => (1, 1),
-    }
+    nodes.checked_sub(extent.nodes)
 }
 
 // The same for a formula. That it fits is told first, so that no more is counted.

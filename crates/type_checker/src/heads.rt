@@ -44,12 +44,12 @@ pub fn opened<'f>(interner: &Interner<'f>, f: Found<'f>) -> Head<'f>
 fn interned_head<'f>(interner: &Interner<'f>, number: usize) -> Head<'f>
     ensures { head_tree interner.now result ≡ formula_at interner.now number }
 {
-    let Some(entry) = interner.entry(number) else {
+    let Some(node) = interner.node(number) else {
         return Head::Bottom;
     };
-    let left = Found::Interned(entry.left);
-    let right = Found::Interned(entry.right);
-    match entry.formula {
+    let left = Found::Interned(node.left);
+    let right = Found::Interned(node.right);
+    match node.formula {
         Formula::Bottom => Head::Bottom,
         Formula::Holds(t) => Head::Holds(t),
         Formula::Imp(_, _) => Head::Imp(left, right),

@@ -1,11 +1,11 @@
 //! The formulas that a proof names, each kept once under a number, so that equal ones are told by their
 //! numbers alone (hash-consing, Ershov 1958).
 
-ghost use Rattle.std.specs.Prelude.{◌≡◌, ◌<◌, ◌^◌, ℕ, [], slice_get, IfSome, IfNone, IfOk, OnOk};
+ghost use Rattle.std.specs.Prelude.{◌≡◌, ◌<◌, ◌^◌, ℕ, [], Some, slice_get, IfSome, IfOk, OnOk};
 ghost use Rattle.std.specs.Option.{option_map};
 ghost use Rattle.formulas.specs.Tree.{FormulaTree, formula_tree};
 ghost use Rattle.formulas.specs.Sorts.{size as nodes_of, depth as levels_of};
-ghost use Rattle.type_checker.specs.Interner.{IsAt, HasParts, IsNumbered};
+ghost use Rattle.type_checker.specs.Interner.{IsAt, HasParts, IsNumbered, formula_at};
 
 use crate::hashed::Node;
 use ck_base::NoMemory;
@@ -17,16 +17,6 @@ use std::marker::Model;
 /// How many nodes and levels a formula has.
 #[derive(Clone, Copy)]
 pub struct Extent {
-    pub nodes: u32,
-    pub levels: u32,
-}
-
-/// What is told of the formula with a number.
-#[derive(Clone, Copy)]
-pub struct Entry<'f> {
-    pub formula: &'f Formula,
-    pub left: usize,
-    pub right: usize,
     pub nodes: u32,
     pub levels: u32,
 }
@@ -63,27 +53,33 @@ impl<'f> Interner<'f> {
         }
     }
 
-    /// The formula with that number, and what is told of it; `None` exactly where no formula has it.
-    pub fn entry(&self, number: usize) -> Option<Entry<'f>>
-        ensures value { option_map (λ e. e.formula.now) result ≡ slice_get self.now number }
-        ensures parts { IfSome result (λ e. HasParts self.now (formula_tree e.formula.now) e.left e.right) }
-        ensures nodes { IfSome result (λ e. e.nodes ≡ nodes_of (formula_tree e.formula.now)) }
-        ensures levels { IfSome result (λ e. e.levels ≡ levels_of (formula_tree e.formula.now)) }
+    /// The formula with that number, and those of its parts; `None` exactly where no formula has it.
+    pub fn node(&self, number: usize) -> Option<Node<'f>>
+        ensures value { option_map (λ n. n.formula.now) result ≡ slice_get self.now number }
+        ensures parts { IfSome result (λ n. HasParts self.now (formula_tree n.formula.now) n.left n.right) }
     {
-        let (node, extent) = self.table.get_index(number)?;
-        Some(Entry {
-            formula: node.formula,
-            left: node.left,
-            right: node.right,
-            nodes: extent.nodes,
-            levels: extent.levels,
-        })
+        let (node, _) = self.table.get_index(number)?;
+        Some(*node)
     }
 
-    /// The number of the formula; `None` exactly where it has none.
+    /// The nodes and levels of the formula with that number, or those of falsity where no formula has it.
+    pub fn extent(&self, number: usize) -> Extent
+        ensures nodes { result.nodes ≡ nodes_of (formula_at self.now number) }
+        ensures levels { result.levels ≡ levels_of (formula_at self.now number) }
+    {
+        match self.table.get_index(number) {
+            Some((_, extent)) => *extent,
+            None => Extent {
+                nodes: 1,
+                levels: 1,
+            },
+        }
+    }
+
+    /// The number of the formula, which has no other; `None` exactly where it has none.
     pub fn number(&self, a: &'f Formula) -> Option<usize>
         ensures some { IfSome result (λ i. IsAt self.now i (formula_tree a.now)) }
-        ensures none { IfNone result ((i : ℕ) → IsAt self.now i (formula_tree a.now) → ⊥) }
+        ensures only { (i : ℕ) → IsAt self.now i (formula_tree a.now) → result ≡ Some i }
     {
         let table = &self.table;
         let (left, right) = match a {
@@ -148,36 +144,38 @@ impl<'f> Interner<'f> {
         if let Some(number) = self.table.get_index_of(&node) {
             return Ok(number);
         }
-        let extent = self.extent(a, left, right);
+        let extent = self.extent_of(a, left, right);
         let (number, _) = self.table.insert_full(node, extent)?;
         Ok(number)
     }
 
     // The nodes and levels of the formula with these parts, by those of its parts.
     #[tactic(auto, using(formulas::proofs::Sizes::depth_within_size))]
-    fn extent(&self, a: &Formula, left: usize, right: usize) -> Extent
+    fn extent_of(&self, a: &Formula, left: usize, right: usize) -> Extent
         requires few { nodes_of (formula_tree a.now) < 2 ^ 32 }
         requires parts { HasParts self.now (formula_tree a.now) left right }
         ensures nodes { result.nodes ≡ nodes_of (formula_tree a.now) }
         ensures levels { result.levels ≡ levels_of (formula_tree a.now) }
     {
-        match (a, self.entry(left), self.entry(right)) {
-            (
-                Formula::Imp(_, _) | Formula::Conj(_, _) | Formula::Disj(_, _),
-                Some(left),
-                Some(right),
-            ) => Extent {
-                nodes: 1 + left.nodes + right.nodes,
-                levels: 1 + left.levels.max(right.levels),
-            },
-            (Formula::All(_, _) | Formula::Ex(_, _), Some(part), _) => Extent {
-                nodes: 1 + part.nodes,
-                levels: 1 + part.levels,
-            },
-            _ => Extent {
+        match a {
+            Formula::Bottom | Formula::Holds(_) => Extent {
                 nodes: size(a),
                 levels: depth(a),
             },
+            Formula::Imp(_, _) | Formula::Conj(_, _) | Formula::Disj(_, _) => {
+                let (left, right) = (self.extent(left), self.extent(right));
+                Extent {
+                    nodes: 1 + left.nodes + right.nodes,
+                    levels: 1 + left.levels.max(right.levels),
+                }
+            }
+            Formula::All(_, _) | Formula::Ex(_, _) => {
+                let part = self.extent(left);
+                Extent {
+                    nodes: 1 + part.nodes,
+                    levels: 1 + part.levels,
+                }
+            }
         }
     }
 }

@@ -72,8 +72,8 @@ pub fn is_bottom(interner: &Interner, f: &Found) -> bool
 fn is_bottom_at(interner: &Interner, number: usize) -> bool
     ensures { result ≡ same_formula bottom (formula_at interner.now number) }
 {
-    match interner.entry(number) {
-        Some(entry) => match entry.formula {
+    match interner.node(number) {
+        Some(node) => match node.formula {
             Formula::Bottom => true,
             _ => false,
         },
@@ -85,24 +85,24 @@ fn is_bottom_at(interner: &Interner, number: usize) -> bool
 fn is_numbered(interner: &Interner, number: usize, b: &Found) -> bool
     ensures { result ≡ same_formula (formula_at interner.now number) (found_tree interner.now b.now) }
 {
-    let Some(entry) = interner.entry(number) else {
+    let Some(node) = interner.node(number) else {
         return is_bottom(interner, b);
     };
-    match (entry.formula, b) {
+    match (node.formula, b) {
         (_, Found::Interned(other)) => same_numbered(interner, number, *other),
         (a, Found::Known(b)) => is_same(a, b),
         (a, Found::Built(b)) => is_same(a, b),
         (Formula::Imp(_, _), Found::Imp(c, d)) => {
-            is_numbered(interner, entry.left, c) && is_numbered(interner, entry.right, d)
+            is_numbered(interner, node.left, c) && is_numbered(interner, node.right, d)
         }
         (Formula::Conj(_, _), Found::Conj(c, d)) => {
-            is_numbered(interner, entry.left, c) && is_numbered(interner, entry.right, d)
+            is_numbered(interner, node.left, c) && is_numbered(interner, node.right, d)
         }
         (Formula::Disj(_, _), Found::Disj(c, d)) => {
-            is_numbered(interner, entry.left, c) && is_numbered(interner, entry.right, d)
+            is_numbered(interner, node.left, c) && is_numbered(interner, node.right, d)
         }
-        (Formula::All(r, _), Found::All(s, b)) => *r == *s && is_numbered(interner, entry.left, b),
-        (Formula::Ex(r, _), Found::Ex(s, b)) => *r == *s && is_numbered(interner, entry.left, b),
+        (Formula::All(r, _), Found::All(s, b)) => *r == *s && is_numbered(interner, node.left, b),
+        (Formula::Ex(r, _), Found::Ex(s, b)) => *r == *s && is_numbered(interner, node.left, b),
         _ => false,
     }
 }
@@ -115,8 +115,8 @@ fn same_numbered(interner: &Interner, number: usize, other: usize) -> bool
     if number == other {
         return true;
     }
-    match interner.entry(number) {
-        Some(entry) => is_at(interner, entry.formula, other),
+    match interner.node(number) {
+        Some(node) => is_at(interner, node.formula, other),
         None => is_bottom_at(interner, other),
     }
 }
@@ -139,8 +139,8 @@ fn is_found(interner: &Interner, a: &Found, b: &Formula) -> bool
 fn is_at(interner: &Interner, a: &Formula, number: usize) -> bool
     ensures { result ≡ same_formula (formula_tree a.now) (formula_at interner.now number) }
 {
-    match interner.entry(number) {
-        Some(entry) => is_same(a, entry.formula),
+    match interner.node(number) {
+        Some(node) => is_same(a, node.formula),
         None => match a {
             Formula::Bottom => true,
             _ => false,

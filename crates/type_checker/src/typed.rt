@@ -43,8 +43,8 @@ pub fn as_formula<'f>(interner: &Interner<'f>, a: &Found<'f>) -> Option<&'f Form
 {
     match a {
         Found::Interned(number) => {
-            let entry = interner.entry(*number)?;
-            Some(entry.formula)
+            let node = interner.node(*number)?;
+            Some(node.formula)
         }
         Found::Known(a) => Some(a),
         _ => None,
@@ -62,8 +62,8 @@ fn boxed(alloc: Global, a: Formula) -> Result<Box<Formula>, NoMemory>
 fn copy_at(alloc: Global, interner: &Interner, number: usize) -> Result<Formula, NoMemory>
     ensures { IfOk result (λ r. formula_tree r ≡ formula_at interner.now number) }
 {
-    match interner.entry(number) {
-        Some(entry) => copy(alloc, entry.formula),
+    match interner.node(number) {
+        Some(node) => copy(alloc, node.formula),
         None => Ok(Formula::Bottom),
     }
 }
