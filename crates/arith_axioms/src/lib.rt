@@ -28,5 +28,3 @@ pub use induction_form::induction;
 pub use no_compute::NoCompute;
 pub use no_ring::NoRing;
 
-#[cfg(test)]
-mod tests;

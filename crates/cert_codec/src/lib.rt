@@ -19,5 +19,3 @@ pub use fault::DecodeFault;
 pub use reading::decode;
 pub use writing::encode;
 
-#[cfg(test)]
-mod tests;

@@ -27,5 +27,3 @@ pub use outside::{Failed, NamedBytes, Origin, Sink, Target};
 pub use scope::{HoleScope, Scope, Scopes};
 pub use text::Text;
 
-#[cfg(test)]
-mod tests;

@@ -34,11 +34,3 @@ pub use reading::{read_formula, read_term};
 pub use text_fault::TextFault;
 pub use token::{Mark, Prefix, Quantifier, Sign};
 
-#[cfg(test)]
-mod proof_printing_tests;
-#[cfg(test)]
-mod proof_reading_tests;
-#[cfg(test)]
-mod reading_tests;
-#[cfg(test)]
-mod tests;

@@ -24,5 +24,3 @@ pub use measures::{depth, fits, size};
 pub use sorts::{well_sorted, well_sorted_under};
 pub use substitution::{instantiate, replace_var, shift, unshift};
 
-#[cfg(test)]
-mod tests;

@@ -19,5 +19,3 @@ pub use measures::{depth, size};
 pub use places::{holes, path_to};
 pub use proof::Proof;
 
-#[cfg(test)]
-mod tests;

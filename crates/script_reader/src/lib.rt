@@ -14,5 +14,3 @@ mod token;
 
 pub use lines::{Line, LineFault, OpenHole, is_blank_line, next_line, read_line};
 
-#[cfg(test)]
-mod tests;

@@ -27,5 +27,3 @@ pub use term::Term;
 pub use variables::{Variables, sort_at};
 pub use weights::{expansions, weight};
 
-#[cfg(test)]
-mod tests;
