@@ -27,4 +27,3 @@ pub use factor::Factor;
 pub use induction_form::induction;
 pub use no_compute::NoCompute;
 pub use no_ring::NoRing;
-

@@ -18,4 +18,3 @@ pub use certificate::{Certificate, Node, RawCertificate};
 pub use fault::DecodeFault;
 pub use reading::decode;
 pub use writing::encode;
-

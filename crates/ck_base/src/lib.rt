@@ -26,4 +26,3 @@ pub use no_memory::NoMemory;
 pub use outside::{Failed, NamedBytes, Origin, Sink, Target};
 pub use scope::{HoleScope, Scope, Scopes};
 pub use text::Text;
-

@@ -33,4 +33,3 @@ pub use proof_reading::read_proof;
 pub use reading::{read_formula, read_term};
 pub use text_fault::TextFault;
 pub use token::{Mark, Prefix, Quantifier, Sign};
-

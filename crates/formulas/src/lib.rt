@@ -23,4 +23,3 @@ pub use formula::Formula;
 pub use measures::{depth, fits, size};
 pub use sorts::{well_sorted, well_sorted_under};
 pub use substitution::{instantiate, replace_var, shift, unshift};
-

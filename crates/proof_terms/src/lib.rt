@@ -18,4 +18,3 @@ pub use filling::{fill, swap_at, unfill};
 pub use measures::{depth, size};
 pub use places::{holes, path_to};
 pub use proof::Proof;
-

@@ -13,4 +13,3 @@ mod stop;
 mod token;
 
 pub use lines::{Line, LineFault, OpenHole, is_blank_line, next_line, read_line};
-

@@ -26,4 +26,3 @@ pub use substitution::{instantiate, replace_var, shift, unshift};
 pub use term::Term;
 pub use variables::{Variables, sort_at};
 pub use weights::{expansions, weight};
-
