@@ -1,41 +1,24 @@
-//! The command line tool: the words are read, the command is run on the outside, and its status ends the
-//! program.
-//!
-//! It stands on all other crates. `top` has the top call, whose clauses are what the tool promises. The
-//! definitions behind them are in `specs/`: the session of a script (`Session.antt`), what is printed of a
-//! valid file (`Texts.antt`), the commands (`Commands.antt`), and how each of them ends (`Ends.antt`). What a
-//! valid file is, and what it promises, is defined in `cert_check`.
+//! The command line tool: the words of the command line are handed to the top call of `commands`, with the
+//! real outside, and its status ends the program.
 #![tactic(auto)]
 
 mod adapters;
-mod check;
-mod derive;
-pub mod laws;
-mod printing;
 #[cfg(test)]
 mod proof_asking;
 #[cfg(test)]
 mod proof_tests;
-mod reading;
 #[cfg(test)]
 mod rule_tests;
-mod session;
-mod status;
 #[cfg(test)]
 mod tests;
-mod texts;
-mod top;
-mod words;
-mod writing;
 
 use adapters::{FileOrigin, FileTarget, StdSink};
-use status::Status;
+use commands::{Status, cocktail};
 use std::process::ExitCode;
 use std::{env, io};
-use top::cocktail;
 
 fn main(rt: HostRuntime) -> ExitCode {
-    ExitCode::from(run(&rt) as u8)
+    ExitCode::from(run(&rt).code())
 }
 
 // Runs the tool on the real outside. Words that are not UTF-8 are no command, as no words are.

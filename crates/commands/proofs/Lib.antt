@@ -1,0 +1,5 @@
+pub mod Transfers
+pub mod Lines
+pub mod Sessions
+pub mod Determined
+pub mod Decided
