@@ -29,10 +29,10 @@ slash b bytes e = subst (λ (x : ℕ). HasNothing (scan 0 (x ∷ bytes))) (sym e
 
 comment_tokens : (bytes : List ℕ) → is_comment bytes ≡ true → HasNothing (scan 0 bytes)
 comment_tokens [] e = inl refl
-comment_tokens (b ∷ bytes) e = by (is_blank b) refl e where
-  by : (t : Bool) → is_blank b ≡ t → ◌≡◌ {A = Bool} (if t then is_comment bytes else (b == 47) && is_slash bytes) true → HasNothing (scan 0 (b ∷ bytes))
-  by true blank h = rw blank (comment_tokens bytes h)
-  by false blank h = slash b bytes (eqb-true _ _ (and_parts (b == 47) (is_slash bytes) h).0)
+comment_tokens (b ∷ bytes) e = by (λ h. comment_tokens bytes h) (is_blank b) refl e where
+  by : (is_comment bytes ≡ true → HasNothing (scan 0 bytes)) → (t : Bool) → is_blank b ≡ t → ◌≡◌ {A = Bool} (if t then is_comment bytes else (b == 47) && is_slash bytes) true → HasNothing (scan 0 (b ∷ bytes))
+  by later true blank h = rw blank (later h)
+  by later false blank h = slash b bytes (eqb-true _ _ (and_parts (b == 47) (is_slash bytes) h).0)
 
 no_text : (t : LineText) → HasNothing (line_tokens t) → ⊥
 no_text (spec_text pre post) (inl e) = absurd (cc)
@@ -71,10 +71,12 @@ goal_of other progress = other
 skips_once : (d : DerivationTree) (hole : ℕ) (x y : DerivationTree) → Skips d hole x → Skips d hole y → x ≡ y
 skips_once d hole x y s t = s.goes_on.is ∙ sym t.goes_on.is
 
+introduced : (hs ks : List FormulaTree) (a b c e : FormulaTree) → proving hs (joined implies a b) ≡ proving ks (joined implies c e) → proving (a ∷ hs) b ≡ proving (c ∷ ks) e
+introduced hs ks a b c e same = cc
+
 introduces_once : (d : DerivationTree) (hole : ℕ) (x y : DerivationTree) → Introduces d hole x → Introduces d hole y → x ≡ y
 introduces_once d hole x y s t =
-    let same : proving s.hypotheses (joined implies s.left s.right) ≡ proving t.hypotheses (joined implies t.left t.right) = sym s.open_is ∙ t.open_is in
-    let parts : proving (s.left ∷ s.hypotheses) s.right ≡ proving (t.left ∷ t.hypotheses) t.right = cc in
+    let parts = introduced s.hypotheses t.hypotheses s.left s.right t.left t.right (sym s.open_is ∙ t.open_is) in
     s.goes_on.is ∙ ap (λ (g : ProgressTree). record { pre = d.pre; post = d.post; progress = g }) parts ∙ sym t.goes_on.is
 
 finishes_once : (d : DerivationTree) (hole : ℕ) (p : ProofTree) (x y : DerivationTree) → Finishes d hole p x → Finishes d hole p y → x ≡ y
@@ -103,11 +105,11 @@ replies_to_once state tree reply reply' next next' (unfinished d hole e s o text
     let same : d ≡ d' = cc in
     let holes : hole ≡ hole' = cc in
     (text ∙ ap (λ (h : OpenHole). unfinished_line h.number) holes ∙ sym text', is ∙ sym is')
-replies_to_once state tree reply reply' next next' (unfinished d hole e s o text is) (refused none no text' is') =
-    let nothing : state ≡ None = no e in absurd (cc)
+replies_to_once state tree reply reply' next next' (unfinished d hole e s o text is) (refused none unless text' is') =
+    let nothing : state ≡ None = unless e in absurd (cc)
 replies_to_once state tree reply reply' next next' (refused none e text is) (accepted d a is' text') = absurd (none d a)
-replies_to_once state tree reply reply' next next' (refused none no text is) (unfinished d hole e s o text' is') =
-    let nothing : state ≡ None = no e in absurd (cc)
+replies_to_once state tree reply reply' next next' (refused none unless text is) (unfinished d hole e s o text' is') =
+    let nothing : state ≡ None = unless e in absurd (cc)
 replies_to_once state tree reply reply' next next' (refused none e text is) (refused none' e' text' is') = (text ∙ sym text', is ∙ sym is')
 
 replies_once : (state : State) (line reply reply' : List ℕ) (next next' : State) → Replies state line reply next → Replies state line reply' next' → Same reply reply' next next'
@@ -132,8 +134,8 @@ no_reply_to state tree reply next line c e x (unfinished d hole e' s o text is) 
     let done : d.progress ≡ finished x.exports.p = ap (λ (y : DerivationTree). y.progress) same ∙ x.exports.done in
     let none : open_hole d.progress ≡ None = ap open_hole done in
     absurd (cc)
-no_reply_to state tree reply next line c e x (refused none no text is) =
-    let nothing : state ≡ None = no e in
+no_reply_to state tree reply next line c e x (refused none unless text is) =
+    let nothing : state ≡ None = unless e in
     let there : state ≡ Some x.d = x.is in
     absurd (cc)
 
