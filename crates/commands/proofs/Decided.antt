@@ -30,11 +30,11 @@ check_decides own None left gained gained' faults faults' status done refused ou
 check_decides own (Some files) left gained gained' faults faults' statuses.Done done refused out long words target = λ name bytes a e.
     let ends = done refl in
     let same : ends.bytes ≡ bytes = same_bytes (Some (checking own)) files ends.name ends.bytes name bytes (ap asks_for ends.named) ends.reads.holds a e in
-    subst (λ (b : List ℕ). IsVerdict (Some (checking own)) b statuses.Done) same (ends.valid.short, ends.certificate, ends.valid)
+    subst (λ (b : List ℕ). IsVerdict (Some (checking own)) b statuses.Done) same (ends.valid.short, (ends.certificate, ends.valid))
 check_decides own (Some files) left gained gained' faults faults' statuses.OutFault done refused out long words target = λ name bytes a e.
     let ends = (out refl).1 in
     let same : ends.bytes ≡ bytes = same_bytes (Some (checking own)) files ends.name ends.bytes name bytes (ap asks_for ends.named) ends.reads.holds a e in
-    subst (λ (b : List ℕ). IsVerdict (Some (checking own)) b statuses.OutFault) same (ends.valid.short, ends.certificate, ends.valid)
+    subst (λ (b : List ℕ). IsVerdict (Some (checking own)) b statuses.OutFault) same (ends.valid.short, (ends.certificate, ends.valid))
 check_decides own (Some files) left gained gained' faults faults' statuses.Refused done refused out long words target = λ name bytes a e.
     let ends = refused refl in
     let same : ends.bytes ≡ bytes = same_bytes (Some (checking own)) files ends.name ends.bytes name bytes (ap asks_for ends.named) ends.reads.holds a e in
@@ -65,13 +65,13 @@ pub derive_decides : (script own : List ℕ) (files : Option (List NamedBytes)) 
 derive_decides script own None left Untouched written written' gained gained' faults faults' Cause status done refused out target long words = tt
 derive_decides script own (Some files) left Untouched written written' gained gained' faults faults' Cause statuses.Done done refused out target long words = λ name bytes a e.
     let ends = done refl in
-    subst (λ (b : List ℕ). IsVerdict (Some (deriving_to script own)) b statuses.Done) (played_bytes script own files left ends.name ends.transcript (Some ends.certificate) name bytes ends.played a e) (ends.played.short, ends.transcript, ends.certificate, ends.played.plays)
+    subst (λ (b : List ℕ). IsVerdict (Some (deriving_to script own)) b statuses.Done) (played_bytes script own files left ends.name ends.transcript (Some ends.certificate) name bytes ends.played a e) (ends.played.short, (ends.transcript, ends.certificate, ends.played.plays))
 derive_decides script own (Some files) left Untouched written written' gained gained' faults faults' Cause statuses.TargetFault done refused out target long words = λ name bytes a e.
     let ends = (target refl).1 in
-    subst (λ (b : List ℕ). IsVerdict (Some (deriving_to script own)) b statuses.TargetFault) (played_bytes script own files left ends.name ends.transcript (Some ends.certificate) name bytes ends.played a e) (ends.played.short, ends.transcript, ends.certificate, ends.played.plays)
+    subst (λ (b : List ℕ). IsVerdict (Some (deriving_to script own)) b statuses.TargetFault) (played_bytes script own files left ends.name ends.transcript (Some ends.certificate) name bytes ends.played a e) (ends.played.short, (ends.transcript, ends.certificate, ends.played.plays))
 derive_decides script own (Some files) left Untouched written written' gained gained' faults faults' Cause statuses.Refused done refused out target long words = λ name bytes a e.
     let ends = refused refl in
-    subst (λ (b : List ℕ). IsVerdict (Some (deriving_to script own)) b statuses.Refused) (played_bytes script own files left ends.name ends.transcript None name bytes ends.played a e) (ends.played.short, ends.transcript, ends.played.plays)
+    subst (λ (b : List ℕ). IsVerdict (Some (deriving_to script own)) b statuses.Refused) (played_bytes script own files left ends.name ends.transcript None name bytes ends.played a e) (ends.played.short, (ends.transcript, ends.played.plays))
 derive_decides script own (Some files) left Untouched written written' gained gained' faults faults' Cause statuses.OutFault done refused out target long words = λ name bytes a e.
     let ends = (out refl).1 in
     subst (λ (b : List ℕ). IsVerdict (Some (deriving_to script own)) b statuses.OutFault) (played_bytes script own files left ends.name ends.transcript ends.exported name bytes ends.played a e) (ends.played.short, tt)
