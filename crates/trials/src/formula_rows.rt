@@ -1,6 +1,6 @@
 //! Formulas: copies, measures, what fits, sorts, substitution and contexts.
 
-ghost use Rattle.std.specs.Prelude.{◌≡◌, ◌≤◌, IfOk};
+ghost use Rattle.std.specs.Prelude.{◌≡◌, ◌≤◌, ◌∷◌, [], map, IfOk};
 ghost use Rattle.formulas.specs.Tree.{formula_tree};
 ghost use Rattle.formulas.specs.Substitution.{HasIndicesBelow};
 ghost use Rattle.formulas.specs.Sorts.{size as nodes_of};
@@ -108,7 +108,9 @@ fn replaces_under_quantifiers(rt: HostRuntime) -> Result<(), Fail> {
 }
 
 /// The context of a variable of sort int with the hypothesis of the text.
-fn context(alloc: Global, a: Formula) -> Result<Context, NoMemory> {
+fn context(alloc: Global, a: Formula) -> Result<Context, NoMemory>
+    ensures { IfOk result (λ c. map formula_tree c.hyps ≡ formula_tree a ∷ []) }
+{
     let mut sorts = List::new(alloc);
     sorts.push(Sort::Int)?;
     let mut hyps = List::new(alloc);
