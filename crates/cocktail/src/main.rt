@@ -12,13 +12,7 @@ mod check;
 mod derive;
 pub mod laws;
 mod printing;
-#[cfg(test)]
-mod proof_asking;
-#[cfg(test)]
-mod proof_tests;
 mod reading;
-#[cfg(test)]
-mod rule_tests;
 mod session;
 mod status;
 #[cfg(test)]
