@@ -3,6 +3,7 @@
 use crate::asking::{CLOSED, joined, nested};
 use ck_base::{Decls, NoMemory, Scope, Text};
 use ck_text::{print_formula, print_proof};
+use formulas::Formula;
 use script_reader::{Line, LineFault, OpenHole, is_blank_line, next_line, read_line};
 use std::alloc::Global;
 use std::test::Fail;
@@ -13,27 +14,37 @@ const OPENED: Option<OpenHole> = Some(OpenHole {
     hypotheses: 2,
 });
 
+const SCOPE: Scope = Scope { sorts: 0, hyps: 2 };
+
 /// What a line asks for, printed.
 fn asked(alloc: Global, line: &Line) -> Result<Text, NoMemory> {
-    let mut text = Text::new(alloc);
-    let decls = Decls::new(alloc);
     match line {
-        Line::Spec { pre, post } => {
-            text.append(b"spec { ")?;
-            print_formula(&decls, CLOSED, pre, &mut text)?;
-            text.append(b" } { ")?;
-            print_formula(&decls, CLOSED, post, &mut text)?;
-            text.append(b" }")?;
-        }
-        Line::Skip { hole } => text.append(format!(in alloc; "{hole}: skip")?.as_bytes())?,
-        Line::Intro { hole } => text.append(format!(in alloc; "{hole}: intro")?.as_bytes())?,
+        Line::Spec { pre, post } => spec(alloc, pre, post),
+        Line::Skip { hole } => step(alloc, *hole, b"skip"),
+        Line::Intro { hole } => step(alloc, *hole, b"intro"),
         Line::Exact { hole, proof } => {
-            text.append(format!(in alloc; "{hole}: exact ")?.as_bytes())?;
-            print_proof(&decls, Scope { sorts: 0, hyps: 2 }, proof, &mut text)?;
+            let mut text = step(alloc, *hole, b"exact ")?;
+            print_proof(&Decls::new(alloc), SCOPE, proof, &mut text)?;
+            Ok(text)
         }
-        Line::Export => text.append(b"export")?,
+        Line::Export => joined(alloc, &[b"export"]),
     }
+}
+
+/// `spec { P } { Q }`.
+fn spec(alloc: Global, pre: &Formula, post: &Formula) -> Result<Text, NoMemory> {
+    let decls = Decls::new(alloc);
+    let mut text = joined(alloc, &[b"spec { "])?;
+    print_formula(&decls, CLOSED, pre, &mut text)?;
+    text.append(b" } { ")?;
+    print_formula(&decls, CLOSED, post, &mut text)?;
+    text.append(b" }")?;
     Ok(text)
+}
+
+/// The hole, and what is done at it.
+fn step(alloc: Global, hole: u32, word: &[u8]) -> Result<Text, NoMemory> {
+    joined(alloc, &[format!(in alloc; "{hole}: ")?.as_bytes(), word])
 }
 
 /// Whether the line asks for that, where hole 3 is open under two hypotheses.
