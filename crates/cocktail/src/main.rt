@@ -4,12 +4,6 @@
 
 mod adapters;
 #[cfg(test)]
-mod proof_asking;
-#[cfg(test)]
-mod proof_tests;
-#[cfg(test)]
-mod rule_tests;
-#[cfg(test)]
 mod tests;
 
 use adapters::{FileOrigin, FileTarget, StdSink};

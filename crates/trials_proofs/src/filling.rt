@@ -1,7 +1,7 @@
 //! Proofs as their texts give them: copies, holes and what fills them, and the most levels. What is expected was
 //! worked out by hand.
 
-use crate::proof_asking::{Ask, answers, copies, has, joined, nested};
+use crate::asking::{Ask, answers, copies, has, joined, lacks, nested};
 use std::test::Fail;
 
 /// Each rule once.
@@ -94,5 +94,20 @@ fn deep_proofs(rt: HostRuntime) -> Result<(), Fail> {
     assert!(rt; answers(alloc, Ask::Fill(1, b"axiom(3)"), deepest, filled.as_bytes())?);
     let text = nested(alloc, 2_048, b"stable(", b"?1", b")")?;
     assert!(rt; has(alloc, text.as_bytes(), b"syntax, column 14337")?);
+    Ok(())
+}
+
+/// A proof of 2,048 levels that has a formula: the oldest hypothesis is opened 2,046 times, and each time one
+/// more variable and hypothesis stand around the rest.
+#[test]
+fn deep_proofs_of_formulas(rt: HostRuntime) -> Result<(), Fail> {
+    let alloc = rt.alloc();
+    let rest = nested(alloc, 2_046, b"unpack(#0, ", b"refl(3)", b")")?;
+    let text = joined(alloc, &[b"lam(ex x. x = x, ", rest.as_bytes(), b")"])?;
+    assert!(rt; has(alloc, text.as_bytes(), b"(ex _0:int. _0 = _0) => 3 = 3")?);
+    // The newest hypothesis is about the newest variable, which would escape.
+    let rest = nested(alloc, 2_046, b"unpack(#0, ", b"#2046", b")")?;
+    let text = joined(alloc, &[b"lam(ex x. x = x, ", rest.as_bytes(), b")"])?;
+    assert!(rt; lacks(alloc, text.as_bytes(), 2_047)?);
     Ok(())
 }

@@ -20,7 +20,7 @@ const MOST: usize = 65_536;
 pub(crate) enum Ask<'a> {
     /// Its formula without variables and hypotheses, or the place where it has none.
     Formula,
-    /// A copy.
+    /// A copy, printed in the scope that the proof is read in.
     Copy,
     /// Its levels and nodes, and its holes in preorder.
     Measures,
@@ -30,6 +30,12 @@ pub(crate) enum Ask<'a> {
     Unfill(u32),
 }
 
+/// No variable and no hypothesis.
+pub(crate) const CLOSED: Scope = Scope { sorts: 0, hyps: 0 };
+
+// Nine hypotheses.
+const WIDE: Scope = Scope { sorts: 0, hyps: 9 };
+
 /// The question about the proof of that text has that answer.
 pub(crate) fn answers(
     alloc: Global,
@@ -37,7 +43,7 @@ pub(crate) fn answers(
     text: &[u8],
     wanted: &[u8],
 ) -> Result<bool, DeclFault> {
-    Ok(answer(alloc, ask, 0, text)?.as_bytes() == wanted)
+    Ok(answer(alloc, ask, CLOSED, text)?.as_bytes() == wanted)
 }
 
 /// The proof of that text has the printed formula.
@@ -57,42 +63,58 @@ pub(crate) fn lacks(alloc: Global, text: &[u8], place: u32) -> Result<bool, Decl
 
 /// The text is read as a proof, and printed and copied as it stands.
 pub(crate) fn copies(alloc: Global, text: &[u8]) -> Result<bool, DeclFault> {
-    Ok(answer(alloc, Ask::Copy, 9, text)?.as_bytes() == text)
+    copies_under(alloc, WIDE, text)
 }
 
-/// What is answered to the question about the proof of that text, where so many hypotheses are in scope, or the
-/// fault of the text.
-pub(crate) fn answer(alloc: Global, ask: Ask, hyps: u32, text: &[u8]) -> Result<Text, DeclFault> {
+/// The same in a scope.
+pub(crate) fn copies_under(alloc: Global, scope: Scope, text: &[u8]) -> Result<bool, DeclFault> {
+    Ok(answer(alloc, Ask::Copy, scope, text)?.as_bytes() == text)
+}
+
+/// What is answered to the question about the proof of that text in that scope, or the fault of the text.
+pub(crate) fn answer(
+    alloc: Global,
+    ask: Ask,
+    scope: Scope,
+    text: &[u8],
+) -> Result<Text, DeclFault> {
     let decls = names(alloc)?;
     let mut out = Text::new(alloc);
-    if text.len() > MOST || hyps > 9 {
+    if text.len() > MOST || scope.sorts > 9 || scope.hyps > 9 {
         return Ok(out);
     }
-    let scope = Scope { sorts: 0, hyps };
     match read_proof(alloc, &decls, scope, text) {
-        Ok(p) => asked(alloc, &decls, ask, p, &mut out)?,
+        Ok(p) => asked(alloc, &decls, ask, scope, p, &mut out)?,
         Err(fault) => out.append(format!(in alloc; "{fault}")?.as_bytes())?,
     }
     Ok(out)
 }
 
-// Two truth values and an integer.
-fn names(alloc: Global) -> Result<Decls, DeclFault> {
+/// Two truth values and two integers.
+pub(crate) fn names(alloc: Global) -> Result<Decls, DeclFault> {
     let mut decls = Decls::new(alloc);
     decls.add("a", Kind::Constant, Sort::Bool)?;
     decls.add("b", Kind::Constant, Sort::Bool)?;
     decls.add("x", Kind::Variable, Sort::Int)?;
+    decls.add("y", Kind::Variable, Sort::Int)?;
     Ok(decls)
 }
 
 // The answer.
-fn asked(alloc: Global, decls: &Decls, ask: Ask, p: Proof, out: &mut Text) -> Result<(), NoMemory>
+fn asked(
+    alloc: Global,
+    decls: &Decls,
+    ask: Ask,
+    scope: Scope,
+    p: Proof,
+    out: &mut Text,
+) -> Result<(), NoMemory>
     requires { proof_size (proof_tree p) < 2 ^ 31 }
 {
     let mut p = p;
     match ask {
         Ask::Formula => formula(alloc, decls, &p, out),
-        Ask::Copy => printed(decls, &copy(alloc, &p)?, out),
+        Ask::Copy => print_proof(decls, scope, &copy(alloc, &p)?, out),
         Ask::Measures => measured(alloc, &p, out),
         Ask::Fill(k, text) => filled(alloc, decls, &mut p, k, text, out),
         Ask::Unfill(k) => unfilled(alloc, decls, &mut p, k, out),
@@ -100,7 +122,7 @@ fn asked(alloc: Global, decls: &Decls, ask: Ask, p: Proof, out: &mut Text) -> Re
 }
 
 fn printed(decls: &Decls, p: &Proof, out: &mut Text) -> Result<(), NoMemory> {
-    print_proof(decls, Scope { sorts: 0, hyps: 9 }, p, out)
+    print_proof(decls, WIDE, p, out)
 }
 
 #[tactic(auto, using(cert_check::proofs::Built::nodes_within_size))]
@@ -112,7 +134,7 @@ fn formula(alloc: Global, decls: &Decls, p: &Proof, out: &mut Text) -> Result<()
         hyps: List::new(alloc),
     };
     match type_of(alloc, decls, &context, p) {
-        Ok(a) => print_formula(decls, Scope { sorts: 0, hyps: 0 }, &a, out),
+        Ok(a) => print_formula(decls, CLOSED, &a, out),
         Err(Untyped::At { place }) => out.append(format!(in alloc; "place {place}")?.as_bytes()),
         Err(Untyped::NoMemory) => Err(NoMemory),
     }
@@ -142,7 +164,7 @@ fn filled(
     if text.len() > MOST || !has_once(alloc, p, k)? {
         return Ok(());
     }
-    match read_proof(alloc, decls, Scope { sorts: 0, hyps: 9 }, text) {
+    match read_proof(alloc, decls, WIDE, text) {
         Ok(fragment) => match fill(p, k, fragment) {
             Ok(()) => printed(decls, p, out),
             Err(fragment) => {
@@ -210,7 +232,7 @@ fn is_absent(numbers: &[u32], k: u32) -> bool
     }
 }
 
-/// `before` so many times, then the middle, then as many closing parentheses.
+/// `before` so many times, then the middle, then `after` as many times.
 pub(crate) fn nested(
     alloc: Global,
     count: u32,

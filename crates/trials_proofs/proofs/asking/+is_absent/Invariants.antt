@@ -1,5 +1,5 @@
 use Rattle.std.proofs.Common.{length}
-use Rattle.cocktail.proofs.proof_asking.+is_absent.Given as goal
+use Rattle.trials_proofs.proofs.asking.+is_absent.Given as goal
 
 abbrev pub decreases-is_absent : goal.decreases-is_absent
 decreases-is_absent l = length l.numbers.now

@@ -1,8 +1,8 @@
 //! Rows of the typing rules: the formula that each rule gives, where a proof has none, and which formulas are too
 //! large to be given. What is expected was worked out by hand.
 
-use crate::proof_asking::{Ask, answer, has, joined, lacks, nested};
-use ck_base::DeclFault;
+use crate::asking::{Ask, answer, has, joined, lacks, nested};
+use ck_base::{DeclFault, Scope};
 use std::alloc::Global;
 use std::test::Fail;
 
@@ -18,7 +18,8 @@ fn implications(rt: HostRuntime) -> Result<(), Fail> {
         )?
     );
     // A hypothesis that is not there.
-    assert!(rt; answer(alloc, Ask::Formula, 1, b"#0")?.as_bytes() == b"place 0".as_slice());
+    let one = Scope { sorts: 0, hyps: 1 };
+    assert!(rt; answer(alloc, Ask::Formula, one, b"#0")?.as_bytes() == b"place 0".as_slice());
     assert!(rt; lacks(alloc, b"lam(7, #0)", 1)?);
     // The part of a lambda over no formula is passed over.
     assert!(rt; lacks(alloc, b"lam(7, first(#0))", 2)?);
