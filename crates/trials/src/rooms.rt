@@ -52,7 +52,9 @@ pub(crate) fn replaces_term(t: &Term, name: u32, with: &Term, under: u32) -> boo
     ensures { result ≡ true → HasTermIndicesBelow (2 ^ 32) (replace_term (term_tree t.now) name (term_tree with.now) under) }
 {
     match t {
-        Term::Bound(_) | Term::Int(_) | Term::Truth(_) => true,
+        Term::Int(_) | Term::Truth(_) => true,
+        // Every index is; asking it tells the proof so.
+        Term::Bound(k) => *k <= u32::MAX,
         Term::Var(x) => *x != name || shifts_term(with, under, 0),
         Term::Neg(t) | Term::Not(t) => replaces_term(t, name, with, under),
         Term::Add(s, t)
